@@ -1,0 +1,5 @@
+pub mod Model
+pub mod Answer
+pub mod Readings
+pub mod Formula
+pub mod Close
