@@ -1,0 +1,6 @@
+pub mod Cuts
+pub mod Ends
+pub mod Rounds
+pub mod Scalings
+pub mod Drops
+pub mod Sums

@@ -1,0 +1,4 @@
+pub mod Radix
+pub mod Cut
+pub mod Rounded
+pub mod Placed

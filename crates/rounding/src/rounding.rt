@@ -1,0 +1,6 @@
+/// Which way a result is rounded.
+#[derive(Clone, Copy)]
+pub enum Rounding {
+    Down,
+    Up,
+}
