@@ -4,3 +4,4 @@ pub mod Rounds
 pub mod Scalings
 pub mod Drops
 pub mod Sums
+pub mod Laws

@@ -60,6 +60,29 @@ module _ (t : Rounding) (B L : ℕ) (b : 2 ≤ B) (l : 2 ≤ L) where
       (subst (λ (x : ℕ). x < L) (sym (next-cut n e)) h)
       (λ i j. subst (λ (x : ℕ). L ≤ x) (sym (next-cut n i)) (o (suc i) (omega arith))))
 
+  ended : (k n : ℕ) → n < L → (cut t n (B ^ surplus t B L k n) < L) × ((i : ℕ) → i < surplus t B L k n → L ≤ cut t n (B ^ i))
+  ended k n h =
+      let e = surplus-none k n h in
+      (subst (λ (x : ℕ). cut t n (B ^ x) < L) (sym e) (subst (λ (x : ℕ). x < L) (sym (whole-cut n)) h), λ i l. absurd (omega (arith, e)))
+
+  later : (n : ℕ) → L ≤ n → (k : ℕ) → ((i : ℕ) → i < k → L ≤ cut t (cut t n B) (B ^ i)) → (i : ℕ) → i < suc k → L ≤ cut t n (B ^ i)
+  later n many k f zero l = subst (λ (x : ℕ). L ≤ x) (sym (whole-cut n)) many
+  later n many k f (suc i) l = subst (λ (x : ℕ). L ≤ x) (next-cut n i) (f i (omega arith))
+
+  -- and that is where cutting ends
+  pub surplus-ends : (k n : ℕ) → n ≤ k → (cut t n (B ^ surplus t B L k n) < L) × ((i : ℕ) → i < surplus t B L k n → L ≤ cut t n (B ^ i))
+  surplus-ends zero n f = let e : n ≡ 0 = omega arith in ended zero n (omega arith)
+  surplus-ends (suc k) n f =
+      dite (decLe L n)
+      (λ many.
+      let s = shrinks n (omega arith) in
+      let r = surplus-ends k (cut t n B) (omega arith) in
+      let e = surplus-more k n many in (
+        subst (λ (x : ℕ). cut t n (B ^ x) < L) (sym e) (subst (λ (x : ℕ). x < L) (next-cut n (surplus t B L k (cut t n B))) (r .0)),
+        λ i l. later n many (surplus t B L k (cut t n B)) (r .1) i (subst (λ (x : ℕ). i < x) e l),
+      ))
+      (λ few. ended (suc k) n (lt-of-not-le few))
+
 module _ {B S W bias : ℕ} (z : Radix B S W bias) (t : Rounding) (N u : ℕ) (pu : 0 < u) where
   -- cut at every lower place it would have too many digits
   abbrev pub Fills : ℕ → Type 0

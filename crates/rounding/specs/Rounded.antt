@@ -63,3 +63,8 @@ module _ {B S W bias : ℕ} where
   -- the whole number n; none past 2 ^ 62
   abbrev pub whole-end : Radix B S W bias → Rounding → (n : ℕ) → Option (End B S W bias)
   whole-end z t n = cond (leb n (2 ^ 62)) (rounded z t (n * B ^ bias) 1) None
+
+  -- a lower end: 0 where there is none
+  abbrev pub or-zero : Radix B S W bias → Option (End B S W bias) → End B S W bias
+  or-zero z (Some e) = e
+  or-zero z None = zero-end z
