@@ -49,6 +49,10 @@ pub whole-le : {m n : ℕ} → m ≤ n → whole m ≼ whole n
 unfolding whole
 whole-le h = record { cross = omega (arith, h) }
 
+pub zero-le : (x : Fraction) → whole 0 ≼ x
+unfolding whole
+zero-le x = record { cross = omega arith }
+
 pub plus-first : (x y : Fraction) → x ≼ x ⊕ y
 unfolding _⊕_
 plus-first x y = record { cross = omega arith }
