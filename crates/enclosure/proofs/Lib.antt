@@ -1,2 +1,5 @@
 pub mod Narrow
 pub mod Closeness
+pub mod Operations
+pub mod Wide
+pub mod Trees

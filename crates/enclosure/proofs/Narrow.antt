@@ -80,9 +80,12 @@ module _ {w : ℕ} (big : 0 < w) {n k : ℕ} {x y l h p q : Fraction} (a : Aroun
       }
 
 -- a tame fraction is above 0, and so is half of it above 10 ^ -36, and twice it below 10 ^ 36
-pub tame-positive : {x : Fraction} → Tame x → 0 < x .num
+pub least-positive : {x : Fraction} → ratio 1 (10 ^ 35) (lit< tt) ≼ x → 0 < x .num
 unfolding ratio
-tame-positive t = above-zero {x = ratio 1 (10 ^ 35) (lit< tt)} (lit< tt) (t .low)
+least-positive h = above-zero {x = ratio 1 (10 ^ 35) (lit< tt)} (lit< tt) h
+
+pub tame-positive : {x : Fraction} → Tame x → 0 < x .num
+tame-positive t = least-positive (t .low)
 
 pub tiny-positive : {x : Fraction} → tiny ≼ x → 0 < x .num
 unfolding tiny ratio
