@@ -3,3 +3,6 @@ pub mod Closeness
 pub mod Operations
 pub mod Wide
 pub mod Trees
+pub mod Formulas
+pub mod Comparisons
+pub mod Exact
