@@ -73,7 +73,7 @@ module _ {E : Type 0} (m : Model E) (sound : Sound m) (n k : ℕ) (x y : Fractio
       let yx = graded.trans pos (d .near) (graded.after pos (le-of-lt over) (c .far)) in
       graded.band {j = n + k} 10000 le xy (graded.wider (n + k) (omega arith) yx)
 
-pub comparisons-tell : Comparisons-tell
+pub comparisons-tell : (E : Type 0) → Comparisons-tell E
 comparisons-tell E m sound n k x y e f c d le =
     record {
       yes = said-yes m sound n k x y e f c d;

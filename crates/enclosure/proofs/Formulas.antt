@@ -48,5 +48,5 @@ module _ {E : Type 0} {m : Model E} (sound : Sound m) where
   steps-close (most a b) t =
       step larger (tame-here (most a b)) a b (narrow-from (most a b)) (tame-from (most a b)) (steps-close a) (steps-close b) t
 
-pub formulas-close : Formulas-close
+pub formulas-close : (E : Type 0) → Formulas-close E
 formulas-close E m sound s t = steps-close sound s t

@@ -1,7 +1,7 @@
 pub mod Narrow
 pub mod Closeness
 pub mod Operations
-pub mod Wide
+pub mod WideNumbers
 pub mod Trees
 pub mod Formulas
 pub mod Comparisons

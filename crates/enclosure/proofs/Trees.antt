@@ -12,7 +12,7 @@ use Rattle.enclosure.specs.Close.{Close, Tame}
 use Rattle.enclosure.proofs.Closeness.{close-whole}
 use Rattle.enclosure.proofs.Narrow.{least-positive, tame-positive}
 use Rattle.enclosure.proofs.Operations.{Operation, sum, product, quotient, smaller, larger, apply, grade-by, close-node, reckoned, facing, bound-below, bound-above}
-use Rattle.enclosure.proofs.Wide.{close-wide}
+use Rattle.enclosure.proofs.WideNumbers.{close-wide}
 
 -- A leaf is an enclosure that is close to a fraction between two numerals (its own, or better ones for what a tree
 -- computed), a whole number up to 2 ^ 62 between two numerals, or one up to 10 ^ 35, which is computed in parts

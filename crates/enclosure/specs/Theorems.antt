@@ -1,4 +1,4 @@
--- What holds of every sound arithmetic, and that there is one.
+-- What holds of every sound arithmetic, on whatever type of enclosures, and that there is one.
 use mathlib.Core.Path.{_≡_}
 use mathlib.Core.Bool.{Bool, _&&_}
 use Prim.Native.Nat.{ℕ, _+_, _*_, _^_, _≤_, _<_, max}
@@ -33,8 +33,8 @@ tame-steps (least s t) = tame-here (least s t) && (tame-steps s && tame-steps t)
 tame-steps (most s t) = tame-here (most s t) && (tame-steps s && tame-steps t)
 
 -- what an arithmetic computes from whole numbers is close to the exact fraction
-abbrev pub Formulas-close : Type 1
-Formulas-close = (E : Type 0) (m : Model E) → Sound m → (s : Steps) → T (tame-steps s) → Close m (grade-of s) (exact-of s) (made-by m s)
+abbrev pub Formulas-close : Type 0 → Type 0
+Formulas-close E = (m : Model E) → Sound m → (s : Steps) → T (tame-steps s) → Close m (grade-of s) (exact-of s) (made-by m s)
 
 -- what an answer on two enclosures says of the exact fractions: yes, at most; no, above; unknown, within 10000 / w of the larger
 pub record Tells (w answer : ℕ) (x y : Fraction) : Type 0 where
@@ -43,16 +43,16 @@ pub record Tells (w answer : ℕ) (x y : Fraction) : Type 0 where
   pub unknown : answer ≡ 3 → Band w 10000 x y
 
 -- comparing two close enclosures tells how the exact fractions compare
-abbrev pub Comparisons-tell : Type 1
-Comparisons-tell = (E : Type 0) (m : Model E) → Sound m → (n k : ℕ) (x y : Fraction) (e f : E) → Close m n x e → Close m k y f → n + k ≤ 10000 → Tells (m .fineness) (compared m e f) x y
+abbrev pub Comparisons-tell : Type 0 → Type 0
+Comparisons-tell E = (m : Model E) → Sound m → (n k : ℕ) (x y : Fraction) (e f : E) → Close m n x e → Close m k y f → n + k ≤ 10000 → Tells (m .fineness) (compared m e f) x y
 
 -- a whole number of up to 128 bits is contained in what its parts make, and up to 10 ^ 35 it is close
 pub record Wide {E : Type 0} (m : Model E) (n : ℕ) : Type 0 where
   pub contained : Encloses m (wide-of (computed m) n) (whole n)
   pub close : 1 ≤ n → n ≤ 10 ^ 35 → Close m 4 (whole n) (wide-of (computed m) n)
 
-abbrev pub Wide-numbers-hold : Type 1
-Wide-numbers-hold = (E : Type 0) (m : Model E) → Sound m → (n : ℕ) → n < 2 ^ 128 → Wide m n
+abbrev pub Wide-numbers-hold : Type 0 → Type 0
+Wide-numbers-hold E = (m : Model E) → Sound m → (n : ℕ) → n < 2 ^ 128 → Wide m n
 
 -- the exact fractions as an arithmetic
 abbrev pub exact-model : Model Fraction
