@@ -42,10 +42,10 @@ module _ {T : Type 0} (o : Ops T) where
       dite (decLe n (2 ^ 62))
       (λ le. short o (o .num) n le ∙ sym (short o (parted o (o .num)) n le))
       (λ gt.
-        let past : 2 ^ 62 < n = lt-of-not-le gt in
-        let pos : 1 ≤ n = omega arith in
-        let e = parts n pos in
-        long o (o .num) n past ∙ sym (long o (parted o (o .num)) n past ∙ rw (short o (o .num) ((n - 1) / 2 ^ 61) (omega arith))))
+      let past : 2 ^ 62 < n = lt-of-not-le gt in
+      let pos : 1 ≤ n = omega arith in
+      let e = parts n pos in
+      long o (o .num) n past ∙ sym (long o (parted o (o .num)) n past ∙ rw (short o (o .num) ((n - 1) / 2 ^ 61) (omega arith))))
 
   pub wide-short : (n : ℕ) → n ≤ 2 ^ 62 → wide-of o n ≡ o .num n
   wide-short n h = short o (parted o (o .num)) n h
@@ -63,28 +63,28 @@ module _ {E : Type 0} {m : Model E} (sound : Sound m) where
       dite (decLe n (2 ^ 62))
       (λ le. rw (short o above n le) (sound .whole-in n le))
       (λ gt.
-        let past : 2 ^ 62 < n = lt-of-not-le gt in
-        let pos : 1 ≤ n = omega arith in
-        let b = low-part n in
-        let k = (n - 1) / 2 ^ 61 in
-        let r = (n - 1) % 2 ^ 61 + 1 in
-        let unit = m .from-whole (2 ^ 61) in
-        let upper = sound .product-in (above k) unit (whole k) (whole (2 ^ 61)) (higher past) (sound .whole-in (2 ^ 61) (lit≤ tt)) in
-        rw (long o above n past)
-        (encloses-along (same-parts n pos) (sound .sum-in (m .product (above k) unit) (m .from-whole r) (whole k ⊗ whole (2 ^ 61)) (whole r) upper (sound .whole-in r (omega arith)))))
+      let past : 2 ^ 62 < n = lt-of-not-le gt in
+      let pos : 1 ≤ n = omega arith in
+      let b = low-part n in
+      let k = (n - 1) / 2 ^ 61 in
+      let r = (n - 1) % 2 ^ 61 + 1 in
+      let unit = m .from-whole (2 ^ 61) in
+      let upper = sound .product-in (above k) unit (whole k) (whole (2 ^ 61)) (higher past) (sound .whole-in (2 ^ 61) (lit≤ tt)) in
+      rw (long o above n past)
+      (encloses-along (same-parts n pos) (sound .sum-in (m .product (above k) unit) (m .from-whole r) (whole k ⊗ whole (2 ^ 61)) (whole r) upper (sound .whole-in r (omega arith)))))
 
   pub wide-in : (n : ℕ) → n < 2 ^ 128 → Encloses m (wide-of (computed m) n) (whole n)
   wide-in n bound =
       parted-in (parted (computed m) (m .from-whole)) n
       (λ past.
-        let k = (n - 1) / 2 ^ 61 in
-        let pos : 1 ≤ n = omega arith in
-        let e = parts n pos in
-        parted-in (m .from-whole) k
-        (λ past-again.
-          let some : 1 ≤ k = omega arith in
-          let i = parts k some in
-          sound .whole-in ((k - 1) / 2 ^ 61) (omega arith)))
+      let k = (n - 1) / 2 ^ 61 in
+      let pos : 1 ≤ n = omega arith in
+      let e = parts n pos in
+      parted-in (m .from-whole) k
+      (λ past-again.
+      let some : 1 ≤ k = omega arith in
+      let i = parts k some in
+      sound .whole-in ((k - 1) / 2 ^ 61) (omega arith)))
 
   -- n past 2 ^ 62 by its parts
   close-parts : (n : ℕ) → 2 ^ 62 < n → n ≤ 10 ^ 35 → Close m 4 (whole n) (m .sum (m .product (m .from-whole ((n - 1) / 2 ^ 61)) (m .from-whole (2 ^ 61))) (m .from-whole ((n - 1) % 2 ^ 61 + 1)))

@@ -75,7 +75,9 @@ pub fn wide<A: Arithmetic>(n: u128) -> A
     }
     let high = (n - 1) / (1 << 61);
     let low = (n - 1) % (1 << 61) + 1;
-    wide::<A>(high).mul(A::whole(1 << 61)).add(A::whole(low as u64))
+    wide::<A>(high)
+        .mul(A::whole(1 << 61))
+        .add(A::whole(low as u64))
 }
 
 // The theorems of this crate: each stands on the contract of a function, so that a check asks for its proof.
