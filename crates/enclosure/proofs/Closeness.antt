@@ -1,18 +1,18 @@
 -- How closeness passes through the operations of every sound arithmetic.
-use mathlib.Core.Path.{_≡_, refl, sym, ap, subst}
+use mathlib.Core.Path.{_≡_, refl, sym, subst}
 use Prim.Native.Nat.{ℕ, _+_, _*_, _^_, _≤_, _<_, max}
 use native.Mathlib.Nat.{add-comm}
 use native.Mathlib.Omega.{arith}
 use lib.Dec.{lit≤}
-use Rattle.fraction.specs.Fraction.{Fraction, ratio, whole, _⊕_, _⊗_, _⊘_, _⊔_, _⊓_, _≼_, Same}
+use Rattle.fraction.specs.Fraction.{Fraction, ratio, whole, _⊕_, _⊗_, _⊘_, _⊔_, _⊓_, Same}
 use Rattle.fraction.specs.Graded.{Within}
-use Rattle.fraction.proofs.Order.{le-trans, above-zero}
+use Rattle.fraction.proofs.Order.{le-trans}
 use Rattle.fraction.proofs.Graded as graded
 use Rattle.fraction.proofs.Lattice as lattice
 use Rattle.enclosure.specs.Model.{Model, Sound, Upper, at, unbounded, Below, Encloses, Bounded, Fine, Ends}
 use Rattle.enclosure.specs.Formula.{Made, number, plus, times, over, least, most}
 use Rattle.enclosure.specs.Close.{Tame, Close}
-use Rattle.enclosure.proofs.Narrow.{Around, around-self, around-plus, around-times, around-over, around-smaller, around-larger, Inside, inside, near-grade, far-grade, tame-positive, tiny-positive}
+use Rattle.enclosure.proofs.Narrow.{Around, around-self, around-plus, around-times, around-over, around-smaller, around-larger, inside, near-grade, far-grade, tame-positive, tiny-positive}
 
 -- of equal numbers, both are tame
 pub tame-along : {x y : Fraction} → Same x y → Tame x → Tame y
@@ -53,6 +53,10 @@ module _ {E : Type 0} {m : Model E} where
         made = c .made;
       }
 
+  between : {n : ℕ} {x t : Fraction} {r : E} → Tame x → Made m r → Encloses m r x → m .upper r ≡ at t → Within (m .fineness) n x (m .lower r) → Within (m .fineness) n t x → Close m n x r
+  between {n} {x} {t} {r} tame made within is near far =
+      record { top = t; is = is; low = within .low; high = subst (Below x) is (within .high); near = near; far = far; tame = tame; made = made }
+
   around : {n : ℕ} {x : Fraction} {e : E} (c : Close m n x e) → Around (m .fineness) n x (m .lower e) (c .top)
   around c = record { low = c .low; high = c .high; near = c .near; far = c .far }
 
@@ -85,32 +89,16 @@ module _ {E : Type 0} {m : Model E} where
 
     -- one rounding of ends that are narrow around x
     rounded : {n : ℕ} {x l h : Fraction} {r : E} → n ≤ 100000 → Tame x → Around (m .fineness) n x l h → Encloses m r x → Fine m (whole 0) l h r → Made m r → Close m (n + 1) x r
-    rounded {n} {x} {l} {h} {r} le tame a within fine made =
+    rounded {n} le tame a within fine made =
         let i = inside fine-positive (half n le) tame a in
-        record {
-          top = fine .top;
-          is = fine .is;
-          low = within .low;
-          high = subst (Below x) (fine .is) (within .high);
-          near = graded.trans fine-positive (a .near) (near-grade fine-positive (i .low-tiny) (fine .low));
-          far = rw (add-comm n 1) (graded.trans fine-positive (far-grade fine-positive (i .high-tiny) (fine .high)) (a .far));
-          tame = tame;
-          made = made;
-        }
+        between tame made within (fine .is)
+        (graded.trans fine-positive (a .near) (near-grade fine-positive (i .low-tiny) (fine .low)))
+        (rw (add-comm n 1) (graded.trans fine-positive (far-grade fine-positive (i .high-tiny) (fine .high)) (a .far)))
 
     -- and none
     unrounded : {n : ℕ} {x l h : Fraction} {r : E} → Tame x → Around (m .fineness) n x l h → Encloses m r x → Ends m l h r → Made m r → Close m n x r
-    unrounded {n} {x} {l} {h} {r} tame a within ends made =
-        record {
-          top = ends .top;
-          is = ends .is;
-          low = within .low;
-          high = subst (Below x) (ends .is) (within .high);
-          near = graded.before fine-positive (a .near) (ends .low .from);
-          far = graded.after fine-positive (ends .high .to) (a .far);
-          tame = tame;
-          made = made;
-        }
+    unrounded tame a within ends made =
+        between tame made within (ends .is) (graded.before fine-positive (a .near) (ends .low .from)) (graded.after fine-positive (ends .high .to) (a .far))
 
     -- a whole number from 1 to 2 ^ 62
     pub close-whole : (k : ℕ) → 1 ≤ k → k ≤ 2 ^ 62 → Close m 1 (whole k) (m .from-whole k)

@@ -1,18 +1,18 @@
 -- What the answer on two close enclosures says of the exact fractions.
 use mathlib.Core.Path.{_≡_, refl, sym, ap, _∙_}
 use mathlib.Core.Bool.{Bool, true, false, cond}
-use Prim.Native.Nat.{ℕ, _+_, _*_, _≤_, _<_}
+use Prim.Native.Nat.{ℕ, _+_, _*_, _≤_}
 use native.Mathlib.Omega.{arith}
 use borrow.Author.Tests.{leb-true, leb-false, ltb-true, ltb-false}
 use lib.Dec.{leb, ltb}
 use Rattle.fraction.specs.Fraction.{Fraction, _≼_, _≺_}
-use Rattle.fraction.specs.Graded.{Within, Band}
+use Rattle.fraction.specs.Graded.{Band}
 use Rattle.fraction.proofs.Order.{le-trans, le-lt, lt-le, le-of-lt}
 use Rattle.fraction.proofs.Graded as graded
-use Rattle.enclosure.specs.Model.{Model, Sound, Upper, at}
+use Rattle.enclosure.specs.Model.{Model, Sound, Upper}
 use Rattle.enclosure.specs.Answer.{ends-by, ends-below, compared}
 use Rattle.enclosure.specs.Close.{Close}
-use Rattle.enclosure.specs.Theorems.{Tells, Comparisons-tell}
+use Rattle.enclosure.specs.Theorems.{Comparisons-tell}
 use Rattle.enclosure.proofs.Closeness.{fine-positive}
 
 -- which tests an answer comes from

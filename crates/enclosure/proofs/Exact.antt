@@ -1,12 +1,12 @@
 -- The laws can be met: the exact fractions meet them.
-use mathlib.Core.Path.{_≡_, refl, subst}
-use Prim.Native.Nat.{ℕ, _^_, _≤_, _<_}
+use mathlib.Core.Path.{_≡_, refl}
+use Prim.Native.Nat.{_^_}
 use lib.Dec.{lit≤}
 use Rattle.fraction.specs.Fraction.{Fraction, whole, _⊕_, _⊗_, _⊘_, _⊖_, _⊔_, _⊓_, _≼_}
 use Rattle.fraction.proofs.Order.{le-refl, plus-le, times-le, over-le, excess-le, above-zero, plus-first}
 use Rattle.fraction.proofs.Lattice.{smaller-mono, larger-mono}
 use Rattle.fraction.proofs.Sames as same
-use Rattle.enclosure.specs.Model.{Model, Sound, at, Encloses, Near, Fine, Ends}
+use Rattle.enclosure.specs.Model.{at, Encloses, Near, Fine, Ends}
 use Rattle.enclosure.specs.Theorems.{exact-model, Laws-can-be-met}
 
 held : {x e : Fraction} → e ≼ x → x ≼ e → Encloses exact-model e x

@@ -1,16 +1,18 @@
 -- Two ends that are narrow around an exact fraction, before any rounding.
-use mathlib.Core.Path.{_≡_, sym, ap, subst}
+use mathlib.Core.Path.{_≡_, ap}
+use mathlib.Core.Bool.{_&&_}
 use Prim.Native.Nat.{ℕ, suc, _+_, _-_, _*_, _^_, _≤_, _<_, max}
-use native.Mathlib.Nat.{mul-pos, mul-le-mul-left, mul-le-mul-right, le-of-mul-le-mul-right, add-comm}
+use native.Mathlib.Nat.{mul-le-mul-left, mul-le-mul-right, le-of-mul-le-mul-right}
 use native.Mathlib.Omega.{arith}
-use lib.Dec.{lit<}
+use lib.Dec.{T, leb, leb→le, lit<}
+use lib.Ieee.Fits.{and-l, and-r}
 use Rattle.fraction.specs.Fraction.{Fraction, ratio, whole, _⊕_, _⊗_, _⊘_, _⊔_, _⊓_, _≼_}
 use Rattle.fraction.specs.Graded.{Within}
-use Rattle.fraction.proofs.Order.{le-refl, le-trans, zero-le, plus-le, times-le, over-le, above-zero}
+use Rattle.fraction.proofs.Order.{le-refl, le-trans, zero-le, one-max, plus-le, times-le, over-le, above-zero}
 use Rattle.fraction.proofs.Graded as graded
 use Rattle.fraction.proofs.Lattice as lattice
 use Rattle.enclosure.specs.Model.{Near, huge, tiny}
-use Rattle.enclosure.specs.Close.{Tame}
+use Rattle.enclosure.specs.Close.{Tame, in-range}
 
 -- the ends l and h contain x, and each is within the grade n of it
 pub record Around (w n : ℕ) (x l h : Fraction) : Type 0 where
@@ -46,19 +48,19 @@ module _ {w : ℕ} (big : 0 < w) {n k : ℕ} {x y l h p q : Fraction} (a : Aroun
         far = graded.over big middle (a .far) (b .near);
       }
 
-  first : n ≤ max n k
-  first = omega arith
+  first : Around w (max n k) x l h
+  first = around-wider (max n k) (omega arith) a
 
-  second : k ≤ max n k
-  second = omega arith
+  second : Around w (max n k) y p q
+  second = around-wider (max n k) (omega arith) b
 
   pub around-plus : Around w (max n k) (x ⊕ y) (l ⊕ p) (h ⊕ q)
   around-plus =
       record {
         low = plus-le (a .low) (b .low);
         high = plus-le (a .high) (b .high);
-        near = graded.plus (graded.wider (max n k) first (a .near)) (graded.wider (max n k) second (b .near));
-        far = graded.plus (graded.wider (max n k) first (a .far)) (graded.wider (max n k) second (b .far));
+        near = graded.plus (first .near) (second .near);
+        far = graded.plus (first .far) (second .far);
       }
 
   pub around-smaller : Around w (max n k) (x ⊓ y) (l ⊓ p) (h ⊓ q)
@@ -66,8 +68,8 @@ module _ {w : ℕ} (big : 0 < w) {n k : ℕ} {x y l h p q : Fraction} (a : Aroun
       record {
         low = lattice.smaller-mono (a .low) (b .low);
         high = lattice.smaller-mono (a .high) (b .high);
-        near = lattice.smaller big (graded.wider (max n k) first (a .near)) (graded.wider (max n k) second (b .near));
-        far = lattice.smaller big (graded.wider (max n k) first (a .far)) (graded.wider (max n k) second (b .far));
+        near = lattice.smaller big (first .near) (second .near);
+        far = lattice.smaller big (first .far) (second .far);
       }
 
   pub around-larger : Around w (max n k) (x ⊔ y) (l ⊔ p) (h ⊔ q)
@@ -75,8 +77,8 @@ module _ {w : ℕ} (big : 0 < w) {n k : ℕ} {x y l h p q : Fraction} (a : Aroun
       record {
         low = lattice.larger-mono (a .low) (b .low);
         high = lattice.larger-mono (a .high) (b .high);
-        near = lattice.larger big (graded.wider (max n k) first (a .near)) (graded.wider (max n k) second (b .near));
-        far = lattice.larger big (graded.wider (max n k) first (a .far)) (graded.wider (max n k) second (b .far));
+        near = lattice.larger big (first .near) (second .near);
+        far = lattice.larger big (first .far) (second .far);
       }
 
 -- a tame fraction is above 0, and so is half of it above 10 ^ -36, and twice it below 10 ^ 36
@@ -86,6 +88,27 @@ least-positive h = above-zero {x = ratio 1 (10 ^ 35) (lit< tt)} (lit< tt) h
 
 pub tame-positive : {x : Fraction} → Tame x → 0 < x .num
 tame-positive t = least-positive (t .low)
+
+-- what the test of a grade and two bounds shows
+pub record In-range (n : ℕ) (low high : Fraction) : Type 0 where
+  pub narrow : n ≤ 100000
+  pub least : ratio 1 (10 ^ 35) (lit< tt) ≼ low
+  pub most : high ≼ whole (10 ^ 35)
+
+pub ranged : (n : ℕ) (low high : Fraction) → T (in-range n low high) → In-range n low high
+unfolding ratio whole
+ranged n low high t =
+    let below = leb (low .den) (low .num * 10 ^ 35) in
+    let above = leb (high .num) (10 ^ 35 * high .den) in
+    let r = and-r (leb n 100000) (below && above) t in
+    record {
+      narrow = leb→le n 100000 (and-l (leb n 100000) (below && above) t);
+      least = record { cross = omega (arith, leb→le (low .den) (low .num * 10 ^ 35) (and-l below above r)) };
+      most = record { cross = omega (arith, leb→le (high .num) (10 ^ 35 * high .den) (and-r below above r)) };
+    }
+
+pub tame-between : {n : ℕ} {x low high : Fraction} → In-range n low high → low ≼ x → x ≼ high → Tame x
+tame-between i a b = record { low = le-trans (i .least) a; high = le-trans b (i .most) }
 
 pub tiny-positive : {x : Fraction} → tiny ≼ x → 0 < x .num
 unfolding tiny ratio
@@ -115,9 +138,6 @@ inside {w} {n} {x} {l} {h} big half t a =
       low-huge = le-trans (a .low) (twice-below t self);
       high-huge = twice-below t (graded.twice big half (a .far));
     }
-
-one-max : (n : ℕ) → 0 < n → max 1 n ≡ n
-one-max n h = omega arith
 
 near-cross : (xn xd gn gd p w : ℕ) → w ≡ suc p → 0 < xd → xn * (gd * (xd * w)) ≤ (gn * (xd * w) + xn * 1 * gd) * xd → xn * gd * p ≤ gn * xd * w
 near-cross xn xd gn gd p w e pos h =

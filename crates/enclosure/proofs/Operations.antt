@@ -1,5 +1,5 @@
 -- The five operations under one name: what each does, the grade and the bounds of its result.
-use Prim.Native.Nat.{ℕ, _+_, _*_, _^_, _≤_, _<_, max, min}
+use Prim.Native.Nat.{ℕ, _+_, _*_, _≤_, _<_, max, min}
 use native.Mathlib.Nat.{mul-pos}
 use native.Mathlib.Omega.{arith}
 use Rattle.fraction.specs.Fraction.{Fraction, _⊕_, _⊗_, _⊘_, _⊔_, _⊓_, _≼_}

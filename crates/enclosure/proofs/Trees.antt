@@ -1,6 +1,6 @@
 -- Formulas as trees of which every node's bounds are known: one theorem for all that the test accepts.
-use mathlib.Core.Bool.{Bool, true, false, _&&_}
-use Prim.Native.Nat.{ℕ, _+_, _*_, _^_, _≤_, _<_}
+use mathlib.Core.Bool.{Bool, true, _&&_}
+use Prim.Native.Nat.{ℕ, _*_, _^_, _≤_, _<_}
 use native.Mathlib.Omega.{arith}
 use lib.Dec.{T, leb, leb→le, lit<}
 use lib.Ieee.Fits.{and-l, and-r}
@@ -8,9 +8,9 @@ use Rattle.fraction.specs.Fraction.{Fraction, ratio, whole, _≼_}
 use Rattle.fraction.proofs.Order.{le-trans, whole-le}
 use Rattle.enclosure.specs.Model.{Model, Sound}
 use Rattle.enclosure.specs.Formula.{Ops, exactly, computed, wide-of}
-use Rattle.enclosure.specs.Close.{Close, Tame}
+use Rattle.enclosure.specs.Close.{Close, in-range}
 use Rattle.enclosure.proofs.Closeness.{close-whole}
-use Rattle.enclosure.proofs.Narrow.{least-positive, tame-positive}
+use Rattle.enclosure.proofs.Narrow.{In-range, ranged, least-positive, tame-between, tame-positive}
 use Rattle.enclosure.proofs.Operations.{Operation, sum, product, quotient, smaller, larger, apply, grade-by, close-node, reckoned, facing, bound-below, bound-above}
 use Rattle.enclosure.proofs.WideNumbers.{close-wide}
 
@@ -69,9 +69,9 @@ module _ {E : Type 0} {m : Model E} where
     high (long a b k h l) = numeral b 1 (lit< tt)
     high (node o f g) = reckoned o (high f) (facing o (high g) (low g))
 
-  -- at each node: the grade is small, and the bounds are tame
+  -- at each node the grade and the bounds are in range
   abbrev fits : Tree m → Bool
-  fits f = leb (grade f) 100000 && (leb (low f .den) (low f .num * 10 ^ 35) && leb (high f .num) (10 ^ 35 * high f .den))
+  fits f = in-range (grade f) (low f) (high f)
 
   abbrev parts-ok : Tree m → Bool
   parts-ok (given a b c d p q h l u) = true
@@ -88,30 +88,18 @@ module _ {E : Type 0} {m : Model E} where
     pub above : low f ≼ exact f
     pub below : exact f ≼ high f
 
-  record Fits (f : Tree m) : Type 0 where
-    narrow : grade f ≤ 100000
-    least : ratio 1 (10 ^ 35) (lit< tt) ≼ low f
-    most : high f ≼ whole (10 ^ 35)
-
-  fitting : (f : Tree m) → T (fits f) → Fits f
-  unfolding ratio whole
-  fitting f t =
-      let r = and-r (leb (grade f) 100000) (leb (low f .den) (low f .num * 10 ^ 35) && leb (high f .num) (10 ^ 35 * high f .den)) t in
-      record {
-        narrow = leb→le (grade f) 100000 (and-l (leb (grade f) 100000) _ t);
-        least = record { cross = omega (arith, leb→le (low f .den) (low f .num * 10 ^ 35) (and-l (leb (low f .den) (low f .num * 10 ^ 35)) _ r)) };
-        most = record { cross = omega (arith, leb→le (high f .num) (10 ^ 35 * high f .den) (and-r (leb (low f .den) (low f .num * 10 ^ 35)) _ r)) };
-      }
+  fitting : (f : Tree m) → T (fits f) → In-range (grade f) (low f) (high f)
+  fitting f t = ranged (grade f) (low f) (high f) t
 
   module _ (s : Sound m) where
-    closed-node : (o : Operation) (f g : Tree m) → Fits (node o f g) → Fits g → Closed f → Closed g → Closed (node o f g)
+    closed-node : (o : Operation) (f g : Tree m) → In-range (grade (node o f g)) (low (node o f g)) (high (node o f g)) → In-range (grade g) (low g) (high g) → Closed f → Closed g → Closed (node o f g)
     closed-node o f g here other a b =
         let pos = least-positive (other .least) in
         let some = tame-positive (b .close .tame) in
         let above = bound-below (a .above) (a .below) (b .above) (b .below) pos some o in
         let below = bound-above (a .above) (a .below) (b .above) (b .below) pos some o in
         record {
-          close = close-node s o (a .close) (b .close) (here .narrow) (record { low = le-trans (here .least) above; high = le-trans below (here .most) });
+          close = close-node s o (a .close) (b .close) (here .narrow) (tame-between here above below);
           above = above;
           below = below;
         }

@@ -1,14 +1,13 @@
 -- Whole numbers of more than 62 bits are close to what they are made of.
 use mathlib.Core.Path.{_≡_, sym, ap, subst, _∙_}
 use mathlib.Core.Logic.{dite}
-use mathlib.Core.Bool.{true, false, cond}
 use Prim.Native.Nat.{ℕ, _+_, _-_, _*_, _/_, _%_, _^_, _≤_, _<_}
 use native.Mathlib.Decide.{decLe}
 use native.Mathlib.Nat.{div-add-mod, mod-lt, lt-of-not-le}
 use native.Mathlib.Omega.{arith}
 use borrow.Author.Tests.{le-leb, lt-leb}
-use lib.Dec.{leb, lit≤, lit<}
-use Rattle.fraction.specs.Fraction.{Fraction, whole, _⊕_, _⊗_, Same}
+use lib.Dec.{lit≤, lit<}
+use Rattle.fraction.specs.Fraction.{whole, _⊕_, _⊗_, Same}
 use Rattle.fraction.proofs.Sames as same
 use Rattle.enclosure.specs.Model.{Model, Sound, Encloses}
 use Rattle.enclosure.specs.Formula.{Ops, computed, parted, wide-of}

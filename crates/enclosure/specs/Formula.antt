@@ -1,7 +1,7 @@
 -- A formula once, over any numbers: the exact fractions, or the enclosures of an arithmetic.
 use mathlib.Core.Path.{_≡_}
 use mathlib.Core.Bool.{cond}
-use Prim.Native.Nat.{ℕ, _+_, _-_, _*_, _/_, _%_, _^_}
+use Prim.Native.Nat.{ℕ, _+_, _-_, _/_, _%_, _^_}
 use lib.Dec.{leb}
 use Rattle.fraction.specs.Fraction.{Fraction, whole, _⊕_, _⊗_, _⊘_, _⊔_, _⊓_}
 use Rattle.enclosure.specs.Model.{Model}

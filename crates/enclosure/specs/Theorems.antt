@@ -1,14 +1,14 @@
 -- What holds of every sound arithmetic, on whatever type of enclosures, and that there is one.
 use mathlib.Core.Path.{_≡_}
 use mathlib.Core.Bool.{Bool, _&&_}
-use Prim.Native.Nat.{ℕ, _+_, _*_, _^_, _≤_, _<_, max}
+use Prim.Native.Nat.{ℕ, _+_, _^_, _≤_, _<_, max}
 use lib.Dec.{T, leb}
 use Rattle.fraction.specs.Fraction.{Fraction, whole, _⊕_, _⊗_, _⊘_, _⊖_, _⊔_, _⊓_, _≼_, _≺_}
 use Rattle.fraction.specs.Graded.{Band}
 use Rattle.enclosure.specs.Model.{Model, Sound, Encloses, at}
 use Rattle.enclosure.specs.Answer.{compared}
 use Rattle.enclosure.specs.Formula.{Steps, number, plus, times, over, least, most, computed, made-by, exact-of, wide-of}
-use Rattle.enclosure.specs.Close.{Close}
+use Rattle.enclosure.specs.Close.{Close, in-range}
 
 -- the grade of what a computation makes: a rounding adds 1
 abbrev pub grade-of : Steps → ℕ
@@ -19,9 +19,9 @@ grade-of (over s t) = grade-of s + grade-of t + 1
 grade-of (least s t) = max (grade-of s) (grade-of t)
 grade-of (most s t) = max (grade-of s) (grade-of t)
 
--- whether the grade is at most 100000, and the exact fraction from 10 ^ -35 to 10 ^ 35
+-- whether the grade and the exact fraction of what it makes are in range
 abbrev pub tame-here : Steps → Bool
-tame-here s = leb (grade-of s) 100000 && (leb (exact-of s .den) (exact-of s .num * 10 ^ 35) && leb (exact-of s .num) (10 ^ 35 * exact-of s .den))
+tame-here s = in-range (grade-of s) (exact-of s) (exact-of s)
 
 -- and so at every step, from whole numbers of 1 to 2 ^ 62
 abbrev pub tame-steps : Steps → Bool

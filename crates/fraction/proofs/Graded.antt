@@ -1,5 +1,5 @@
 -- The graded order: how its grades add up, and the band that it gives.
-use mathlib.Core.Path.{_≡_, refl, sym, ap, subst}
+use mathlib.Core.Path.{_≡_, sym, subst}
 use mathlib.Core.Logic.{dite}
 use native.Mathlib.Decide.{decLe}
 use Prim.Native.Nat.{ℕ, zero, suc, _+_, _-_, _*_, _≤_, _<_, max}

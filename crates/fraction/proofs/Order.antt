@@ -1,5 +1,5 @@
 -- The order of fractions, and how the operations keep it.
-use mathlib.Core.Path.{_≡_, ap, _∙_}
+use mathlib.Core.Path.{_≡_, _∙_}
 use Prim.Native.Nat.{ℕ, zero, suc, _+_, _-_, _*_, _≤_, _<_, max}
 use native.Mathlib.Nat.{mul-le-mul, mul-pos, mul-comm, mul-sub, mul-le-mul-left, mul-le-mul-right, le-of-mul-le-mul-right, lt-of-mul-lt-mul-right, mul-lt-mul-of-pos-right, lt-of-not-le}
 use native.Mathlib.Omega.{arith}
@@ -76,6 +76,10 @@ pub times-le : {x y u v : Fraction} → x ≼ y → u ≼ v → x ⊗ u ≼ y �
 unfolding _⊗_
 times-le {x} {y} {u} {v} a b =
     record { cross = times-cross (x .num) (x .den) (y .num) (y .den) (u .num) (u .den) (v .num) (v .den) (a .cross) (b .cross) }
+
+-- the divisor, where it is not 0
+pub one-max : (n : ℕ) → 0 < n → max 1 n ≡ n
+one-max n h = omega arith
 
 over-cross : (xn xd yn yd un ud vn vd mu mv : ℕ) → un ≤ mu → mv ≡ vn → xn * yd ≤ yn * xd → vn * ud ≤ un * vd → (xn * ud) * (yd * mv) ≤ (yn * vd) * (xd * mu)
 over-cross xn xd yn yd un ud vn vd mu mv le e a b = rw e (omega (arith, mul-le-mul a b, mul-le-mul-left (yn * vd * xd) le))

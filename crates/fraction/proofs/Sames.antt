@@ -1,6 +1,5 @@
 -- Fractions that are one number: what holds of one holds of the other.
-use mathlib.Core.Path.{_≡_}
-use Prim.Native.Nat.{ℕ, _+_, _*_, _<_, max}
+use Prim.Native.Nat.{ℕ, _+_, _*_, _<_}
 use native.Mathlib.Omega.{arith}
 use Rattle.fraction.specs.Fraction.{Fraction, ratio, whole, _⊕_, _⊗_, _⊘_, _⊖_, _⊔_, _⊓_, _≼_, _≺_, Same}
 use Rattle.fraction.specs.Graded.{Within, Band}
@@ -87,22 +86,19 @@ pub whole-times : (m n : ℕ) → Same (whole m ⊗ whole n) (whole (m * n))
 unfolding _⊗_ whole
 whole-times m n = record { to = record { cross = omega arith }; from = record { cross = omega arith } }
 
-one-max : (n : ℕ) → 0 < n → max 1 n ≡ n
-one-max n h = omega arith
-
 -- a quotient of whole numbers is their ratio, and dividing undoes multiplying
 pub whole-over : (m n : ℕ) (pos : 0 < n) → Same (whole m ⊘ whole n) (ratio m n pos)
 unfolding _⊘_ whole ratio
 whole-over m n pos =
     record {
-      to = record { cross = rw (one-max n pos) (omega arith) };
-      from = record { cross = rw (one-max n pos) (omega arith) };
+      to = record { cross = rw (order.one-max n pos) (omega arith) };
+      from = record { cross = rw (order.one-max n pos) (omega arith) };
     }
 
 pub over-times : (x y : Fraction) → 0 < y .num → Same (x ⊘ y ⊗ y) x
 unfolding _⊘_ _⊗_
 over-times x y pos =
     record {
-      to = record { cross = rw (one-max (y .num) pos) (omega arith) };
-      from = record { cross = rw (one-max (y .num) pos) (omega arith) };
+      to = record { cross = rw (order.one-max (y .num) pos) (omega arith) };
+      from = record { cross = rw (order.one-max (y .num) pos) (omega arith) };
     }
