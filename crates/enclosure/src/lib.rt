@@ -66,7 +66,7 @@ pub trait ReadOut: Arithmetic {
         ensures { λ r. ⌜ r ≡ read-above (Self·Arithmetic .model .upper self) ⌝ };
 }
 
-/// The whole number `n`, in parts past 2^62: what stands above 2^61 times 2^61, and a low part from 1 to 2^61.
+/// The whole number `n`, which past 2^62 is made of parts: high times 2^61, and a low part from 1 to 2^61.
 pub fn wide<A: Arithmetic>(n: u128) -> A
     ensures { λ r. ⌜ r ≡ wide-of (computed model) n ⌝ }
 {
