@@ -1,7 +1,8 @@
 -- An enclosure that is narrow around an exact fraction.
 use mathlib.Core.Path.{_≡_}
-use Prim.Native.Nat.{ℕ, _^_}
-use lib.Dec.{lit<}
+use mathlib.Core.Bool.{Bool, _&&_}
+use Prim.Native.Nat.{ℕ, _*_, _^_}
+use lib.Dec.{leb, lit<}
 use Rattle.fraction.specs.Fraction.{Fraction, ratio, whole, _≼_}
 use Rattle.fraction.specs.Graded.{Within}
 use Rattle.enclosure.specs.Model.{Model, at}
@@ -22,3 +23,8 @@ pub record Close {E : Type 0} (m : Model E) (n : ℕ) (x : Fraction) (e : E) : T
   pub far : Within (m .fineness) n top x
   pub tame : Tame x
   pub made : Made m e
+
+-- whether a grade is at most 100000, a lower bound at least 10 ^ -35 and an upper bound at most 10 ^ 35: what the
+-- closeness of a formula is proved within
+abbrev pub in-range : (n : ℕ) (low high : Fraction) → Bool
+in-range n low high = leb n 100000 && (leb (low .den) (low .num * 10 ^ 35) && leb (high .num) (10 ^ 35 * high .den))

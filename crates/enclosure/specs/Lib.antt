@@ -3,3 +3,4 @@ pub mod Answer
 pub mod Readings
 pub mod Formula
 pub mod Close
+pub mod Theorems

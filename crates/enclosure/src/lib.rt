@@ -3,6 +3,8 @@ ghost use mathlib.Core.Path.{_≡_};
 ghost use Rattle.enclosure.specs.Answer.{number, compared};
 ghost use Rattle.enclosure.specs.Model.{Model, Sound};
 ghost use Rattle.enclosure.specs.Readings.{read-below, read-above};
+ghost use Rattle.enclosure.specs.Formula.{computed, wide-of};
+ghost use Rattle.enclosure.specs.Theorems.{Formulas-close, Comparisons-tell, Wide-numbers-hold, Laws-can-be-met};
 
 /// What comparing "at most" answers.
 #[derive(Clone, Copy, PartialEq, Eq, Debug)]
@@ -62,4 +64,48 @@ pub trait ReadOut: Arithmetic {
     /// The whole number above the upper end, or none past 10^18.
     fn ceiling(self) -> Option<u64>
         ensures { λ r. ⌜ r ≡ read-above (Self·Arithmetic .model .upper self) ⌝ };
+}
+
+/// The whole number `n`, which past 2^62 is made of parts: high times 2^61, and a low part from 1 to 2^61.
+pub fn wide<A: Arithmetic>(n: u128) -> A
+    ensures { λ r. ⌜ r ≡ wide-of (computed model) n ⌝ }
+{
+    if n <= 1 << 62 {
+        return A::whole(n as u64);
+    }
+    let high = (n - 1) / (1 << 61);
+    let low = (n - 1) % (1 << 61) + 1;
+    wide::<A>(high)
+        .mul(A::whole(1 << 61))
+        .add(A::whole(low as u64))
+}
+
+// The theorems of this crate: each stands on the contract of a function, so that a check asks for its proof.
+
+/// What an arithmetic computes from whole numbers is close to the exact fraction.
+pub fn formulas_stay_close<E>() -> u8
+    ensures { λ _. ⌜ Formulas-close E ⌝ }
+{
+    0
+}
+
+/// Comparing two close enclosures tells how the exact fractions compare.
+pub fn comparisons_tell<E>() -> u8
+    ensures { λ _. ⌜ Comparisons-tell E ⌝ }
+{
+    0
+}
+
+/// A number of up to 128 bits is contained in what `wide` makes of it, and up to 10^35 it is close.
+pub fn wide_numbers_hold<E>() -> u8
+    ensures { λ _. ⌜ Wide-numbers-hold E ⌝ }
+{
+    0
+}
+
+/// The exact fractions meet the laws, so that the promises are not empty.
+pub fn laws_can_be_met() -> u8
+    ensures { λ _. ⌜ Laws-can-be-met ⌝ }
+{
+    0
 }

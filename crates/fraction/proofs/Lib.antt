@@ -1,1 +1,5 @@
 pub mod Ratios
+pub mod Order
+pub mod Graded
+pub mod Lattice
+pub mod Sames
