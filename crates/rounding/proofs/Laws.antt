@@ -4,14 +4,14 @@ use mathlib.Core.Logic.{dite}
 use mathlib.Core.Bool.{Bool, true, false, cond}
 use native.Mathlib.Decide.{decLe}
 use Prim.Native.Nat.{ℕ, zero, suc, _+_, _*_, _-_, _/_, _^_, _≤_, _<_}
-use native.Mathlib.Nat.{mul-pos, mul-le-mul, mul-le-mul-left, mul-le-mul-right, mul-lt-mul-of-pos-right, mul-assoc, pow-le-pow-right, pow-zero, pow-suc, le-refl, le-of-lt, lt-of-not-le, mul-one}
+use native.Mathlib.Nat.{mul-pos, mul-le-mul-left, mul-le-mul-right, le-of-mul-le-mul-right, mul-assoc, pow-le-pow-right, pow-zero, pow-suc, le-refl, le-of-lt, lt-of-not-le, mul-one}
 use native.Mathlib.Omega.{arith}
 use lib.Pow.{pow-add}
 use Rattle.std.specs.declared.option.Option.{Option}
 use Rattle.std.specs.declared.option.Option.the-variants.{Some, None}
 use Rattle.rounding.specs.Radix.{Radix}
 use Rattle.rounding.specs.Cut.{cut}
-use Rattle.rounding.specs.Rounded.{surplus, rounded, units, zero-end, full-end, wider, or-zero}
+use Rattle.rounding.specs.Rounded.{surplus, rounded, units, zero-end, full-end, wider, or-zero, Ordered}
 use Rattle.rounding.specs.declared.rounding.Rounding.{Rounding}
 use Rattle.rounding.specs.declared.rounding.Rounding.the-variants.{Down, Up}
 use Rattle.rounding.specs.declared.end.End.{End}
@@ -161,3 +161,71 @@ module _ {B S W bias : ℕ} (z : Radix B S W bias) where
             let e : N ≡ 0 = let i = lt-of-not-le none in omega arith in
             let reach : N ≤ units (zero-end z) * u = omega arith in
             subst (Reaches N u) (sym (rounded-none z N u pu Up e)) reach)
+
+    -- an upper end that is there, and too much by little
+    pub record Tops (Q : ℕ) : Type 0 where
+      pub end : End B S W bias
+      pub is : rounded z Up N u ≡ Some end
+      pub near : W * (units end * u) ≤ W * N + Q
+
+    module _ (Q : ℕ) (q : N ≤ Q) (s : W * W * u ≤ Q) where
+      near-full : (some : W ≤ cut Up N u) (e : ℕ) → e ≡ place Up N u pu some → W * (cut Up N (u * B ^ e) * B ^ e * u) ≤ W * N + Q
+      near-full some e i =
+          let m = cut Up N (u * B ^ e) in
+          let c = cuts Up N (u * B ^ e) (mul-pos pu (power-pos z e)) in
+          dite (decLe (u * (W * B ^ e)) N)
+          (λ large. omega (arith, mul-le-mul-left W (le-of-lt (c .1))))
+          (λ less.
+              let l = lt-of-not-le less in
+              let most = cut-most Up N (u * B ^ e) W (mul-pos pu (power-pos z e)) (omega arith) in
+              carried e i (mul-le-mul-right (B ^ e * u) most))
+        where
+          carried : (e : ℕ) → e ≡ place Up N u pu some → cut Up N (u * B ^ e) * (B ^ e * u) ≤ W * (B ^ e * u) → W * (cut Up N (u * B ^ e) * B ^ e * u) ≤ W * N + Q
+          carried zero i h = omega (arith, mul-le-mul-left W h, ap (λ x. W * (W * (x * u))) (pow-zero B))
+          carried (suc j) i h =
+              let f = place-fills Up N u pu some j (omega arith) in
+              let d = cuts Up N (u * B ^ j) (mul-pos pu (power-pos z j)) in
+              let below : W * B * (u * B ^ j) < N + u * B ^ j = omega (arith, mul-le-mul-right (u * B ^ j) f, d .1) in
+              let room : W * (u * B ^ j) ≤ N = omega (arith, mul-le-mul-right (u * B ^ j) (wider z), mul-le-mul-right (u * B ^ j) least) in
+              omega (arith, mul-le-mul-left W h, ap (λ x. W * (W * (x * u))) (pow-suc B j), mul-le-mul-left W (le-of-lt below))
+
+      pub above-near : InRange N u → Tops Q
+      above-near range =
+          dite (decLe W (cut Up N u))
+          (λ some.
+              let e = place Up N u pu some in
+              let m = cut Up N (u * B ^ e) in
+              let le = place-low Up N u pu some range in
+              let v = full-units z m e (place-full Up N u pu some) (place-few Up N u pu some) le in
+              record {
+                end = full-end z m e;
+                is = rounded-full z Up N u pu e some (place-fills Up N u pu some) (place-few Up N u pu some) le;
+                near = subst (λ (x : ℕ). W * (x * u) ≤ W * N + Q) (sym v) (near-full some e refl);
+              })
+          (λ few. slightly (lt-of-not-le few) (cuts Up N u pu))
+        where
+          slightly : cut Up N u < W → (N ≤ cut Up N u * u) × (cut Up N u * u < N + u) → Tops Q
+          slightly f c =
+              let l = mul-le-mul-right u (le-of-lt f) in
+              dite (decLe 1 N)
+              (λ some.
+                  let v = full-units z W 0 (le-refl W) (let w = wider z in omega arith) (omega arith) in
+                  record {
+                    end = full-end z W 0;
+                    is = rounded-slight-up z N u pu some (omega arith);
+                    near = omega (arith, ap (λ x. W * (x * u)) v, ap (λ x. W * (W * x * u)) (pow-zero B));
+                  })
+              (λ none.
+                  let e : N ≡ 0 = let i = lt-of-not-le none in omega arith in
+                  record { end = zero-end z; is = rounded-none z N u pu Up e; near = omega (arith, ap (λ x. W * (x * u)) (zero-units z)) })
+
+  -- what is rounded down is not above what is rounded up from no less
+  pub in-order : (N u M v : ℕ) → 0 < u → 0 < v → N * v ≤ M * u → Ordered (or-zero z (rounded z Down N u)) (rounded z Up M v)
+  in-order N u M v pu pv h = by (rounded z Up M v) (above M v pv)
+    where
+      by : (o : Option (End B S W bias)) → Reaches M v o → Ordered (or-zero z (rounded z Down N u)) o
+      by (Some e) r =
+          le-of-mul-le-mul-right {k = u * v}
+          (omega (arith, mul-le-mul-right v (below N u pu), mul-le-mul-right u r))
+          (mul-pos pu pv)
+      by None r = tt

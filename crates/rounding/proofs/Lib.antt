@@ -5,3 +5,4 @@ pub mod Scalings
 pub mod Drops
 pub mod Sums
 pub mod Laws
+pub mod Orders

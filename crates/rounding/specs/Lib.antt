@@ -2,3 +2,4 @@ pub mod Radix
 pub mod Cut
 pub mod Rounded
 pub mod Placed
+pub mod Pairs

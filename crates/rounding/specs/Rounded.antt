@@ -68,3 +68,8 @@ module _ {B S W bias : ℕ} where
   abbrev pub or-zero : Radix B S W bias → Option (End B S W bias) → End B S W bias
   or-zero z (Some e) = e
   or-zero z None = zero-end z
+
+  -- a lower end that is not above an upper end, where none is no bound
+  abbrev pub Ordered : End B S W bias → Option (End B S W bias) → Type 0
+  Ordered l (Some h) = units l ≤ units h
+  Ordered l None = Unit {0}
