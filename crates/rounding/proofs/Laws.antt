@@ -176,9 +176,9 @@ module _ {B S W bias : ℕ} (z : Radix B S W bias) where
           dite (decLe (u * (W * B ^ e)) N)
           (λ large. omega (arith, mul-le-mul-left W (le-of-lt (c .1))))
           (λ less.
-              let l = lt-of-not-le less in
-              let most = cut-most Up N (u * B ^ e) W (mul-pos pu (power-pos z e)) (omega arith) in
-              carried e i (mul-le-mul-right (B ^ e * u) most))
+          let l = lt-of-not-le less in
+          let most = cut-most Up N (u * B ^ e) W (mul-pos pu (power-pos z e)) (omega arith) in
+          carried e i (mul-le-mul-right (B ^ e * u) most))
         where
           carried : (e : ℕ) → e ≡ place Up N u pu some → cut Up N (u * B ^ e) * (B ^ e * u) ≤ W * (B ^ e * u) → W * (cut Up N (u * B ^ e) * B ^ e * u) ≤ W * N + Q
           carried zero i h = omega (arith, mul-le-mul-left W h, ap (λ x. W * (W * (x * u))) (pow-zero B))
@@ -193,15 +193,15 @@ module _ {B S W bias : ℕ} (z : Radix B S W bias) where
       above-near range =
           dite (decLe W (cut Up N u))
           (λ some.
-              let e = place Up N u pu some in
-              let m = cut Up N (u * B ^ e) in
-              let le = place-low Up N u pu some range in
-              let v = full-units z m e (place-full Up N u pu some) (place-few Up N u pu some) le in
-              record {
-                end = full-end z m e;
-                is = rounded-full z Up N u pu e some (place-fills Up N u pu some) (place-few Up N u pu some) le;
-                near = subst (λ (x : ℕ). W * (x * u) ≤ W * N + Q) (sym v) (near-full some e refl);
-              })
+          let e = place Up N u pu some in
+          let m = cut Up N (u * B ^ e) in
+          let le = place-low Up N u pu some range in
+          let v = full-units z m e (place-full Up N u pu some) (place-few Up N u pu some) le in
+          record {
+            end = full-end z m e;
+            is = rounded-full z Up N u pu e some (place-fills Up N u pu some) (place-few Up N u pu some) le;
+            near = subst (λ (x : ℕ). W * (x * u) ≤ W * N + Q) (sym v) (near-full some e refl);
+          })
           (λ few. slightly (lt-of-not-le few) (cuts Up N u pu))
         where
           slightly : cut Up N u < W → (N ≤ cut Up N u * u) × (cut Up N u * u < N + u) → Tops Q
@@ -209,19 +209,19 @@ module _ {B S W bias : ℕ} (z : Radix B S W bias) where
               let l = mul-le-mul-right u (le-of-lt f) in
               dite (decLe 1 N)
               (λ some.
-                  let v = full-units z W 0 (le-refl W) (let w = wider z in omega arith) (omega arith) in
-                  record {
-                    end = full-end z W 0;
-                    is = rounded-slight-up z N u pu some (omega arith);
-                    near = omega (arith, ap (λ x. W * (x * u)) v, ap (λ x. W * (W * x * u)) (pow-zero B));
-                  })
+              let v = full-units z W 0 (le-refl W) (let w = wider z in omega arith) (omega arith) in
+              record {
+                end = full-end z W 0;
+                is = rounded-slight-up z N u pu some (omega arith);
+                near = omega (arith, ap (λ x. W * (x * u)) v, ap (λ x. W * (W * x * u)) (pow-zero B));
+              })
               (λ none.
-                  let e : N ≡ 0 = let i = lt-of-not-le none in omega arith in
-                  record { end = zero-end z; is = rounded-none z N u pu Up e; near = omega (arith, ap (λ x. W * (x * u)) (zero-units z)) })
+              let e : N ≡ 0 = let i = lt-of-not-le none in omega arith in
+              record { end = zero-end z; is = rounded-none z N u pu Up e; near = omega (arith, ap (λ x. W * (x * u)) (zero-units z)) })
 
   -- what is rounded down is not above what is rounded up from no less
-  pub in-order : (N u M v : ℕ) → 0 < u → 0 < v → N * v ≤ M * u → Ordered (or-zero z (rounded z Down N u)) (rounded z Up M v)
-  in-order N u M v pu pv h = by (rounded z Up M v) (above M v pv)
+  pub rounded-ordered : (N u M v : ℕ) → 0 < u → 0 < v → N * v ≤ M * u → Ordered (or-zero z (rounded z Down N u)) (rounded z Up M v)
+  rounded-ordered N u M v pu pv h = by (rounded z Up M v) (above M v pv)
     where
       by : (o : Option (End B S W bias)) → Reaches M v o → Ordered (or-zero z (rounded z Down N u)) o
       by (Some e) r =

@@ -1,6 +1,6 @@
 -- The nearest end below or above an exact quantity.
 use mathlib.Core.Path.{_≡_}
-use mathlib.Core.Bool.{cond}
+use mathlib.Core.Bool.{Bool, true, cond}
 use Prim.Native.Nat.{ℕ, zero, suc, _+_, _*_, _-_, _/_, _^_, _≤_, _<_, min, max}
 use native.Mathlib.Nat.{mul-le-mul-left}
 use native.Mathlib.Omega.{arith}
@@ -73,3 +73,8 @@ module _ {B S W bias : ℕ} where
   abbrev pub Ordered : End B S W bias → Option (End B S W bias) → Type 0
   Ordered l (Some h) = units l ≤ units h
   Ordered l None = Unit {0}
+
+  -- the same as a test
+  abbrev pub in-order : End B S W bias → Option (End B S W bias) → Bool
+  in-order l (Some h) = leb (units l) (units h)
+  in-order l None = true

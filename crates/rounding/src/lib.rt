@@ -44,7 +44,8 @@ impl<const BASE: u64, const PLACES: u64, const FULL: u64, const BIAS: u64> End<
     FULL,
     BIAS,
 > {
-    fn zero() -> Self
+    /// The end that stands for 0.
+    pub fn zero() -> Self
         requires { ⌜ Radix BASE PLACES FULL BIAS ⌝ }
         ensures { λ r. ⌜ ((z : Radix BASE PLACES FULL BIAS) → r ≡ zero-end z) ⌝ }
     {

@@ -1,0 +1,11 @@
+use mathlib.Core.Path.{_≡_, sym, ap, _∙_}
+use Rattle.rounding.specs.Pairs.{lower-excess}
+use Rattle.rounding.specs.Rounded.{or-zero}
+use Rattle.rounding.specs.declared.rounding.Rounding.the-variants.{Down}
+use Rattle.digits.proofs.Spans.{rounded-any}
+use Rattle.digits.proofs.span.Enclosure.lower_excess.Needs as need
+
+pub returns : need.returns
+returns g c z =
+    c .or-zero .ensures z ∙ ap (or-zero z) (c .excess .ensures ∙ rounded-any (c .args .a .radix) z Down _ _)
+    ∙ ap (λ k. lower-excess z (c .args .a) k) (sym (c .in-Some .is))
