@@ -6,3 +6,4 @@ pub mod Trees
 pub mod Formulas
 pub mod Comparisons
 pub mod Exact
+pub mod ReadOuts

@@ -7,6 +7,7 @@ use Rattle.fraction.specs.Fraction.{Fraction, whole, _⊕_, _⊗_, _⊘_, _⊖_
 use Rattle.fraction.specs.Graded.{Band}
 use Rattle.enclosure.specs.Model.{Model, Sound, Encloses, at}
 use Rattle.enclosure.specs.Answer.{compared}
+use Rattle.enclosure.specs.Readings.{read-below, read-above, Under, Over}
 use Rattle.enclosure.specs.Formula.{Steps, number, plus, times, over, least, most, computed, made-by, exact-of, wide-of}
 use Rattle.enclosure.specs.Close.{Close, in-range}
 
@@ -61,3 +62,11 @@ exact-model = record { fineness = 10 ^ 6; lower = λ x. x; upper = at; from-whol
 -- so the laws can be met
 abbrev pub Laws-can-be-met : Type 0
 Laws-can-be-met = Sound exact-model
+
+-- what is read out of an enclosure bounds each number that it contains
+pub record Bounds {E : Type 0} (m : Model E) (e : E) (x : Fraction) : Type 0 where
+  pub below : Under (read-below (m .lower e)) x
+  pub above : Over (read-above (m .upper e)) x
+
+abbrev pub Readings-bound : Type 0 → Type 0
+Readings-bound E = (m : Model E) (e : E) (x : Fraction) → Encloses m e x → Bounds m e x

@@ -4,7 +4,7 @@ ghost use Rattle.enclosure.specs.Answer.{number, compared};
 ghost use Rattle.enclosure.specs.Model.{Model, Sound};
 ghost use Rattle.enclosure.specs.Readings.{read-below, read-above};
 ghost use Rattle.enclosure.specs.Formula.{computed, wide-of};
-ghost use Rattle.enclosure.specs.Theorems.{Formulas-close, Comparisons-tell, Wide-numbers-hold, Laws-can-be-met};
+ghost use Rattle.enclosure.specs.Theorems.{Formulas-close, Comparisons-tell, Wide-numbers-hold, Readings-bound, Laws-can-be-met};
 
 /// What comparing "at most" answers.
 #[derive(Clone, Copy, PartialEq, Eq, Debug)]
@@ -106,6 +106,13 @@ pub fn wide_numbers_hold<E>() -> u8
 /// The exact fractions meet the laws, so that the promises are not empty.
 pub fn laws_can_be_met() -> u8
     ensures { λ _. ⌜ Laws-can-be-met ⌝ }
+{
+    0
+}
+
+/// What is read out of an enclosure bounds each number that it contains.
+pub fn readings_bound<E>() -> u8
+    ensures { λ _. ⌜ Readings-bound E ⌝ }
 {
     0
 }
