@@ -1,3 +1,4 @@
 pub mod Spans
 pub mod Exacts
 pub mod Laws
+pub mod Decides

@@ -1,6 +1,14 @@
 //! Two enclosure arithmetics, one implementation over the radix: binary and decimal.
+mod binary;
+mod decimal;
 mod span;
 
+pub use binary::Binary;
+pub use binary::BinaryArithmetic;
+pub use binary::BinaryReadOut;
+pub use decimal::Decimal;
+pub use decimal::DecimalArithmetic;
+pub use decimal::DecimalReadOut;
 pub use span::Enclosure;
 ghost use mathlib.Core.Path.{_≡_};
 ghost use Rattle.enclosure.specs.Answer.{number, compared, ends-by, ends-below};
@@ -8,11 +16,9 @@ ghost use Rattle.enclosure.specs.Readings.{read-below, read-above};
 ghost use Rattle.rounding.specs.Pairs.{larger-end, larger-upper, lower-excess, lower-quotient, smaller-end, smaller-upper, upper-excess, upper-product, upper-quotient, upper-sum};
 ghost use Rattle.rounding.specs.Radix.{Radix};
 ghost use Rattle.rounding.specs.Rounded.{or-zero, Ordered};
+ghost use Rattle.digits.specs.Canonical.{Ends-decide};
 ghost use Rattle.digits.specs.Meaning.{bound, excess-of, larger-of, model-of, product-of, quotient-of, smaller-of, sum-of, value, whole-of};
-ghost use Rattle.digits.specs.Radices.{binary, decimal};
-use enclosure::Arithmetic;
 use enclosure::Comparison;
-use enclosure::ReadOut;
 use rounding::End;
 use rounding::Rounding;
 
@@ -297,112 +303,9 @@ impl<const BASE: u64, const PLACES: u64, const FULL: u64, const BIAS: u64> Enclo
     }
 }
 
-/// Thirty-one binary digits.
-pub type Binary = Enclosure<2, 30, 1073741824, 180>;
-
-/// Nine decimal digits.
-pub type Decimal = Enclosure<10, 8, 100000000, 52>;
-
-pub impl Arithmetic for Binary as BinaryArithmetic {
-    const FINENESS: u64 = 1_073_741_824;
-
-    ghost model = { model-of binary };
-
-    fn stated_fineness() -> u64 {
-        Self::FINENESS
-    }
-
-    fn whole(n: u64) -> Binary {
-        Enclosure::from_whole(n)
-    }
-
-    fn add(self, other: Binary) -> Binary {
-        self.sum(other)
-    }
-
-    fn mul(self, other: Binary) -> Binary {
-        self.product(other)
-    }
-
-    fn div(self, other: Binary) -> Binary {
-        self.quotient(other)
-    }
-
-    fn excess(self, other: Binary) -> Binary {
-        self.exceeding(other)
-    }
-
-    fn smaller(self, other: Binary) -> Binary {
-        self.least(other)
-    }
-
-    fn larger(self, other: Binary) -> Binary {
-        self.greatest(other)
-    }
-
-    fn at_most(self, other: Binary) -> Comparison {
-        self.compare(other)
-    }
-}
-
-pub impl ReadOut for Binary as BinaryReadOut {
-    fn floor(self) -> Option<u64> {
-        self.whole_below()
-    }
-
-    fn ceiling(self) -> Option<u64> {
-        self.whole_above()
-    }
-}
-
-pub impl Arithmetic for Decimal as DecimalArithmetic {
-    const FINENESS: u64 = 100_000_000;
-
-    ghost model = { model-of decimal };
-
-    fn stated_fineness() -> u64 {
-        Self::FINENESS
-    }
-
-    fn whole(n: u64) -> Decimal {
-        Enclosure::from_whole(n)
-    }
-
-    fn add(self, other: Decimal) -> Decimal {
-        self.sum(other)
-    }
-
-    fn mul(self, other: Decimal) -> Decimal {
-        self.product(other)
-    }
-
-    fn div(self, other: Decimal) -> Decimal {
-        self.quotient(other)
-    }
-
-    fn excess(self, other: Decimal) -> Decimal {
-        self.exceeding(other)
-    }
-
-    fn smaller(self, other: Decimal) -> Decimal {
-        self.least(other)
-    }
-
-    fn larger(self, other: Decimal) -> Decimal {
-        self.greatest(other)
-    }
-
-    fn at_most(self, other: Decimal) -> Comparison {
-        self.compare(other)
-    }
-}
-
-pub impl ReadOut for Decimal as DecimalReadOut {
-    fn floor(self) -> Option<u64> {
-        self.whole_below()
-    }
-
-    fn ceiling(self) -> Option<u64> {
-        self.whole_above()
-    }
+/// Enclosures with equal ends are equal values, so that equal operands are those with equal ends.
+pub fn ends_decide() -> u8
+    ensures { λ _. ⌜ Ends-decide ⌝ }
+{
+    0
 }
