@@ -1,0 +1,27 @@
+-- The fields of each record, as its line has them after the place.
+use mathlib.Core.Bool.{Bool, true, false}
+use mathlib.Core.List.{List, [], _∷_}
+use Prim.Native.Nat.{ℕ}
+use Rattle.records.specs.declared.section.Section.{Section}
+use Rattle.records.specs.declared.site.LiveLoad.{LiveLoad}
+use Rattle.records.specs.declared.site.LiveLoad.the-variants.{None, Truck}
+use Rattle.records.specs.declared.site.Site.{Site}
+
+abbrev pub section-line : Section → List ℕ
+section-line s =
+    s .inside ∷ s .centroid ∷ s .outside ∷ s .«gross_area» ∷ s .«effective_area» ∷ s .moment ∷ s .«short_modulus»
+    ∷ s .«long_modulus» ∷ s .«compression_limit» ∷ s .«tension_limit» ∷ s .stiffness ∷ []
+
+-- stable walls
+abbrev pub walls-number : Bool → ℕ
+walls-number true = 1
+walls-number false = 0
+
+abbrev pub live-load-number : LiveLoad → ℕ
+live-load-number None = 0
+live-load-number Truck = 1
+
+abbrev pub site-line : Site → List ℕ
+site-line s =
+    s .fill ∷ s .trench ∷ s .water ∷ s .«moist_weight» ∷ s .«saturated_weight» ∷ s .«water_factor» ∷ s .«installation_factor»
+    ∷ s .«native_modulus» ∷ walls-number (s .«stable_walls») ∷ live-load-number (s .«live_load») ∷ []
