@@ -1,4 +1,5 @@
 -- Why the console refuses: each cause by its number, and a refusal as it is printed.
+use mathlib.Core.Bool.{Bool, true, false}
 use mathlib.Core.List.{List}
 use Prim.Native.Nat.{ℕ}
 use Rattle.std.specs.declared.option.Option.{Option}
@@ -41,6 +42,11 @@ stated f = refusal (f .cause) (f .field)
 abbrev pub first : Option Refusal → Option Refusal → Option Refusal
 first None o = o
 first (Some e) o = Some e
+
+-- nothing is refused
+abbrev pub none : Option Refusal → Bool
+none None = true
+none (Some e) = false
 
 -- the fault that a test answers
 abbrev pub refused : {R : Type 0} → Result R Fault → Option Refusal

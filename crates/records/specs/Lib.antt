@@ -1,4 +1,5 @@
 pub mod Cause
+pub mod Curve
 pub mod Fields
 pub mod Section
 pub mod Site

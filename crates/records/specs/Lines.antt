@@ -2,10 +2,16 @@
 use mathlib.Core.Bool.{Bool, true, false}
 use mathlib.Core.List.{List, [], _∷_}
 use Prim.Native.Nat.{ℕ}
+use lib.ListN.{take}
+use Rattle.records.specs.declared.curve.EmbedmentCurve.{EmbedmentCurve}
+use Rattle.records.specs.declared.curve.Points.{Points}
+use Rattle.records.specs.declared.curve.ShapeCurve.{ShapeCurve}
+use Rattle.records.specs.declared.point.Point.{Point}
 use Rattle.records.specs.declared.section.Section.{Section}
 use Rattle.records.specs.declared.site.LiveLoad.{LiveLoad}
 use Rattle.records.specs.declared.site.LiveLoad.the-variants.{None, Truck}
 use Rattle.records.specs.declared.site.Site.{Site}
+use Rattle.records.specs.Curve.{curve-line}
 
 abbrev pub section-line : Section → List ℕ
 section-line s =
@@ -25,3 +31,16 @@ abbrev pub site-line : Site → List ℕ
 site-line s =
     s .fill ∷ s .trench ∷ s .water ∷ s .«moist_weight» ∷ s .«saturated_weight» ∷ s .«water_factor» ∷ s .«installation_factor»
     ∷ s .«native_modulus» ∷ walls-number (s .«stable_walls») ∷ live-load-number (s .«live_load») ∷ []
+
+-- the points of a curve that are in use
+abbrev pub in-use : Points → List Point
+in-use p = take (p .count) (p .held)
+
+abbrev pub points-line : Points → List ℕ
+points-line p = curve-line (in-use p)
+
+abbrev pub embedment-line : EmbedmentCurve → List ℕ
+embedment-line c = points-line (c .points)
+
+abbrev pub shape-line : ShapeCurve → List ℕ
+shape-line c = points-line (c .points)
