@@ -1,17 +1,19 @@
 -- The fields of each record, as its line has them after the place.
 use mathlib.Core.Bool.{Bool, true, false}
 use mathlib.Core.List.{List, [], _∷_}
-use Prim.Native.Nat.{ℕ}
+use Prim.Native.Nat.{ℕ, _*_}
 use lib.ListN.{take}
 use Rattle.records.specs.declared.curve.EmbedmentCurve.{EmbedmentCurve}
 use Rattle.records.specs.declared.curve.Points.{Points}
 use Rattle.records.specs.declared.curve.ShapeCurve.{ShapeCurve}
+use Rattle.records.specs.declared.grid.SupportGrid.{SupportGrid}
 use Rattle.records.specs.declared.point.Point.{Point}
 use Rattle.records.specs.declared.section.Section.{Section}
 use Rattle.records.specs.declared.site.LiveLoad.{LiveLoad}
 use Rattle.records.specs.declared.site.LiveLoad.the-variants.{None, Truck}
 use Rattle.records.specs.declared.site.Site.{Site}
 use Rattle.records.specs.Curve.{curve-line}
+use Rattle.records.specs.Grid.{lists-line}
 
 abbrev pub section-line : Section → List ℕ
 section-line s =
@@ -44,3 +46,16 @@ embedment-line c = points-line (c .points)
 
 abbrev pub shape-line : ShapeCurve → List ℕ
 shape-line c = points-line (c .points)
+
+-- the widths, modulus ratios and factors of a grid that are in use
+abbrev pub grid-widths : SupportGrid → List ℕ
+grid-widths g = take (g .wide) (g .widths)
+
+abbrev pub grid-ratios : SupportGrid → List ℕ
+grid-ratios g = take (g .deep) (g .ratios)
+
+abbrev pub grid-factors : SupportGrid → List ℕ
+grid-factors g = take (g .deep * g .wide) (g .factors)
+
+abbrev pub grid-line : SupportGrid → List ℕ
+grid-line g = lists-line (grid-widths g) (grid-ratios g) (grid-factors g)
