@@ -32,3 +32,15 @@ pub record Bounds (ps : List Point) (at r : Ratio) : Type 0 where
   pub least : (k : ℕ) → NoLower k ps → k * r .den ≤ r .num
   pub most : (k : ℕ) → NoHigher k ps → r .num ≤ k * r .den
   pub fits : (k : ℕ) → NoFurther k ps → r .den ≤ max 1 (k * at .den)
+
+-- the value of a row of factors that begins at `start`, times the cell's whole weight
+abbrev pub row-sum : List ℕ → ℕ → Cell → ℕ
+row-sum fs start c = getD fs (start + c .first) 0 * c .after + getD fs (start + c .second) 0 * c .before
+
+-- both cells lie within a grid of rows of `wide`, whose factors are in their range, and their weights are small
+pub record Crossing (fs : List ℕ) (wide : ℕ) (across along : Cell) : Type 0 where
+  pub low : (along .first * wide + across .first < length fs) × (along .first * wide + across .second < length fs)
+  pub high : (along .second * wide + across .first < length fs) × (along .second * wide + across .second < length fs)
+  pub factors : (k : ℕ) → k < length fs → (1 ≤ getD fs k 0) × (getD fs k 0 ≤ 2000)
+  pub across-small : across .after + across .before ≤ 120000000
+  pub along-small : along .after + along .before ≤ 17280000000000000000000
