@@ -7,7 +7,6 @@ ghost use Rattle.records.specs.Lines.{in-use, points-line, embedment-points, e
 use crate::curve::EmbedmentCurve;
 use crate::curve::Points;
 use crate::curve::ShapeCurve;
-use crate::fault::Cause;
 use crate::fault::Fault;
 use crate::fields::Allowed;
 use crate::fields::in_ranges;
@@ -55,10 +54,7 @@ fn lawful_points(rules: CurveRules, fields: &[u64]) -> Result<Points, Fault>
     ensures { λ r. ⌜ answered points-line r ≡ unless (curve-refusal rules (now (fields .entry))) (now (fields .entry)) ⌝ }
 {
     if !curve_complete(fields) {
-        return Err(Fault {
-            cause: Cause::Writing,
-            field: 0,
-        });
+        return Err(Fault::MISCOUNTED);
     }
     in_ranges(&[Allowed::Between(1, 8)], 2, &fields[0..1])?;
     let rest = &fields[1..];
@@ -72,16 +68,10 @@ fn lawful_points(rules: CurveRules, fields: &[u64]) -> Result<Points, Fault>
     )?;
     let points = Points::of(rest);
     if !rules.trend.holds_along(points.in_use()) {
-        return Err(Fault {
-            cause: Cause::Order,
-            field: 0,
-        });
+        return Err(Fault::DISORDERED);
     }
     if !Rule::Gentle.holds_along(points.in_use()) {
-        return Err(Fault {
-            cause: Cause::Steep,
-            field: 0,
-        });
+        return Err(Fault::TOO_STEEP);
     }
     Ok(points)
 }
@@ -103,6 +93,7 @@ impl EmbedmentCurve {
         Ok(EmbedmentCurve { points })
     }
 
+    /// The points in use.
     pub fn points(&self) -> &[Point]
         ensures { λ r. ⌜ now r ≡ embedment-points (now (self .entry)) ⌝ }
     {
@@ -127,6 +118,7 @@ impl ShapeCurve {
         Ok(ShapeCurve { points })
     }
 
+    /// The points in use.
     pub fn points(&self) -> &[Point]
         ensures { λ r. ⌜ now r ≡ shape-points (now (self .entry)) ⌝ }
     {

@@ -41,6 +41,24 @@ pub struct Fault {
     pub field: u64,
 }
 
+impl Fault {
+    /// A line that has not the number of fields that it should.
+    pub const MISCOUNTED: Fault = Fault {
+        cause: Cause::Writing,
+        field: 0,
+    };
+    /// A record that breaks an ordering rule.
+    pub const DISORDERED: Fault = Fault {
+        cause: Cause::Order,
+        field: 0,
+    };
+    /// A curve or a grid that is too steep.
+    pub const TOO_STEEP: Fault = Fault {
+        cause: Cause::Steep,
+        field: 0,
+    };
+}
+
 impl Cause {
     /// The number that the cause is printed under.
     pub fn number(self) -> u8

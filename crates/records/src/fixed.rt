@@ -4,7 +4,6 @@ ghost use Rattle.records.specs.Cause.{answered, unless};
 ghost use Rattle.records.specs.Lines.{section-line, site-line, live-load-number};
 ghost use Rattle.records.specs.Section.{section-refusal};
 ghost use Rattle.records.specs.Site.{site-refusal};
-use crate::fault::Cause;
 use crate::fault::Fault;
 use crate::fields::Allowed;
 use crate::fields::in_ranges;
@@ -31,10 +30,7 @@ impl Section {
             stiffness,
         ] = fields
         else {
-            return Err(Fault {
-                cause: Cause::Writing,
-                field: 0,
-            });
+            return Err(Fault::MISCOUNTED);
         };
         let diameter = Allowed::Between(3_000, 120_000);
         let area = Allowed::Between(100, 100_000);
@@ -62,10 +58,7 @@ impl Section {
             || effective_area > gross_area
             || long_modulus > short_modulus
         {
-            return Err(Fault {
-                cause: Cause::Order,
-                field: 0,
-            });
+            return Err(Fault::DISORDERED);
         }
         Ok(Section {
             inside: *inside,
@@ -112,10 +105,7 @@ impl Site {
             live_load,
         ] = fields
         else {
-            return Err(Fault {
-                cause: Cause::Writing,
-                field: 0,
-            });
+            return Err(Fault::MISCOUNTED);
         };
         let flag = Allowed::Between(0, 1);
         in_ranges(

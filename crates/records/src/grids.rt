@@ -4,7 +4,6 @@ ghost use lib.ListN.{length, take};
 ghost use Rattle.records.specs.Cause.{refused, answered, unless};
 ghost use Rattle.records.specs.Grid.{rising, column, columns-hold, lists-refusal, grid-complete, grid-refusal};
 ghost use Rattle.records.specs.Lines.{grid-line, grid-widths, grid-ratios, grid-factors};
-use crate::fault::Cause;
 use crate::fault::Fault;
 use crate::fields::Allowed;
 use crate::fields::in_ranges;
@@ -77,16 +76,10 @@ fn check_lists(widths: &[u64], ratios: &[u64], factors: &[u64]) -> Result<(), Fa
     in_ranges(&[Allowed::Between(5, 5_000)], ratio_field, ratios)?;
     in_ranges(&[Allowed::Between(1, 2_000)], factor_field, factors)?;
     if !is_rising(widths) || !columns_hold(Rule::NeverFalling, widths, ratios, factors) {
-        return Err(Fault {
-            cause: Cause::Order,
-            field: 0,
-        });
+        return Err(Fault::DISORDERED);
     }
     if !columns_hold(Rule::Gentle, widths, ratios, factors) {
-        return Err(Fault {
-            cause: Cause::Steep,
-            field: 0,
-        });
+        return Err(Fault::TOO_STEEP);
     }
     Ok(())
 }
@@ -123,10 +116,7 @@ impl SupportGrid {
         ensures { λ r. ⌜ answered grid-line r ≡ unless (grid-refusal (now (fields .entry))) (now (fields .entry)) ⌝ }
     {
         if !grid_complete(fields) {
-            return Err(Fault {
-                cause: Cause::Writing,
-                field: 0,
-            });
+            return Err(Fault::MISCOUNTED);
         }
         let wide = fields[0] as usize;
         let deep = fields[1] as usize;
