@@ -4,18 +4,19 @@ use mathlib.Core.Bool.{Bool, true, false}
 use mathlib.Core.List.{List, [], _∷_}
 use Prim.Native.Nat.{ℕ, _≤_, _<_}
 use native.Mathlib.Omega.{arith}
-use borrow.Author.Tests.{eq-eqb, eqb-true, eqb-false}
+use borrow.Author.Tests.{eqb-true, eqb-false}
 use lib.Dec.{lit<, eqb}
 use lib.ListN.{length, getD}
 use Rattle.std.specs.declared.option.Option.the-variants.{None}
 use Rattle.std.specs.declared.result.Result.the-variants.{Ok}
 use Rattle.std.proofs.shelf.Ways.{tells}
+use Rattle.records.specs.declared.fault.Cause.the-variants.{Writing}
 use Rattle.records.specs.declared.fields.Allowed.the-variants.{Between, Among}
-use Rattle.records.specs.Cause.{unless}
+use Rattle.records.specs.Cause.{refusal, unless}
 use Rattle.records.specs.Fields.{allows, outside}
 use Rattle.records.specs.Lines.{walls-number}
 use Rattle.records.specs.Site.{site-ranges, site-refusal}
-use Rattle.records.proofs.Ranges.{spell, spelled, turned, allowed-at, between}
+use Rattle.records.proofs.Ranges.{spelled, turned, cond-none, allowed-at, between}
 
 walls-back : (n : ℕ) → n ≤ 1 → walls-number (eqb n 1) ≡ n
 walls-back n h = by (eqb n 1) refl
@@ -27,8 +28,14 @@ walls-back n h = by (eqb n 1) refl
 three : (n : ℕ) → true ≡ allows (Among 115 135 150) n → (115 ≤ n) × (n ≤ 150) × (true ≡ allows (Among 115 135 150) n)
 three n e = (grind (arith, tells), grind (arith, tells), e)
 
-module _ (ns : List ℕ) (e : length ns ≡ 10) (r : None ≡ outside site-ranges 2 ns) where
-  pub record SiteRanges : Type 0 where
+module _ (ns : List ℕ) (found : None ≡ site-refusal ns) where
+  counted : (true ≡ eqb (length ns) 10) × (None ≡ outside site-ranges 2 ns)
+  counted = cond-none (eqb (length ns) 10) _ (refusal Writing 0) found
+
+  pub ten : length ns ≡ 10
+  ten = eqb-true (length ns) 10 (sym (counted .0))
+
+  pub record SiteKept : Type 0 where
     pub fill : (12001 ≤ getD ns 0 0) × (getD ns 0 0 ≤ 1200000)
     pub trench : (1 ≤ getD ns 1 0) × (getD ns 1 0 ≤ 1200000)
     pub water : getD ns 2 0 ≤ 1260000
@@ -40,8 +47,8 @@ module _ (ns : List ℕ) (e : length ns ≡ 10) (r : None ≡ outside site-range
     pub walls : getD ns 8 0 ≤ 1
     pub live : getD ns 9 0 ≤ 1
 
-  pub site-in-range : SiteRanges
-  site-in-range =
+  pub site-kept : SiteKept
+  site-kept =
       record {
         fill = between 12001 1200000 _ (at 0 (lit< tt));
         trench = between 1 1200000 _ (at 1 (lit< tt));
@@ -56,8 +63,8 @@ module _ (ns : List ℕ) (e : length ns ≡ 10) (r : None ≡ outside site-range
       }
     where
       at : (i : ℕ) → i < 10 → true ≡ allows (getD site-ranges (turned 10 0 i) (Between 0 0)) (getD ns i 0)
-      at i h = allowed-at site-ranges 0 2 ns r i (omega (arith, h, e))
+      at i h = allowed-at site-ranges 0 2 ns (counted .1) i (omega (arith, h, ten))
 
   pub site-made : (live : ℕ) → (getD ns 9 0 ≤ 1 → live ≡ getD ns 9 0) → Ok (getD ns 0 0 ∷ getD ns 1 0 ∷ getD ns 2 0 ∷ getD ns 3 0 ∷ getD ns 4 0 ∷ getD ns 5 0 ∷ getD ns 6 0 ∷ getD ns 7 0 ∷ walls-number (eqb (getD ns 8 0) 1) ∷ live ∷ []) ≡ unless (site-refusal ns) ns
   site-made live k =
-      rw (eq-eqb (length ns) 10 e, ← r, k (site-in-range .live), walls-back (getD ns 8 0) (site-in-range .walls)) (ap (λ (l : List ℕ). Ok l) (sym (spelled 0 10 ns e)))
+      rw (← found, k (site-kept .live), walls-back (getD ns 8 0) (site-kept .walls)) (ap (λ (l : List ℕ). Ok l) (sym (spelled 0 10 ns ten)))

@@ -10,6 +10,7 @@ use Rattle.records.specs.declared.fault.Cause.{Cause}
 use Rattle.records.specs.declared.fault.Cause.the-variants.{Place, Range, Order, Steep, Empty, Trench, Water, Figure, Claim, Tally, Writing, Part, Trailer, Length}
 use Rattle.records.specs.declared.fault.Fault.{Fault}
 
+-- the number that a cause is printed under
 abbrev pub number : Cause → ℕ
 number Place = 1
 number Range = 2
@@ -31,6 +32,7 @@ pub record Refusal : Type 0 where
   pub cause : ℕ
   pub field : ℕ
 
+-- the refusal of a cause at a field
 abbrev pub refusal : Cause → ℕ → Refusal
 refusal c f = record { cause = number c; field = f }
 
@@ -48,7 +50,7 @@ abbrev pub none : Option Refusal → Bool
 none None = true
 none (Some e) = false
 
--- the fault that a test answers
+-- the refusal that a test answers
 abbrev pub refused : {R : Type 0} → Result R Fault → Option Refusal
 refused (Ok r) = None
 refused (Err f) = Some (stated f)

@@ -44,11 +44,12 @@ abbrev pub chained : Rule → List Point → Bool
 chained r [] = true
 chained r (p ∷ ps) = linked r p ps
 
--- the fields of points, and the points of fields
+-- the fields of points
 abbrev pub flat : List Point → List ℕ
 flat [] = []
 flat (p ∷ ps) = p .x ∷ p .y ∷ flat ps
 
+-- the points of fields, two by two
 abbrev pub paired : List ℕ → List Point
 paired [] = []
 paired (x ∷ []) = []
@@ -58,10 +59,11 @@ paired (x ∷ (y ∷ ns)) = record { x = x; y = y } ∷ paired ns
 abbrev pub curve-line : List Point → List ℕ
 curve-line ps = length ps ∷ flat ps
 
+-- there are as many fields as the count asks for; a missing count asks for none
 abbrev pub curve-complete : List ℕ → Bool
 curve-complete ns = eqb (length ns) (1 + 2 * getD ns 0 0)
 
--- the count is field 2, and the points' fields go on from 3
+-- why the numbers make no curve of these rules: the count is field 2, and the points' fields go on from 3
 abbrev pub curve-refusal : CurveRules → List ℕ → Option Refusal
 curve-refusal r ns =
     cond (curve-complete ns)

@@ -23,5 +23,6 @@ outside-from all k f [] = None
 outside-from all k f (n ∷ ns) =
     cond (allows (getD all k (Between 0 0)) n) (outside-from all ((k + 1) % length all) (f + 1) ns) (Some (refusal Range f))
 
+-- the same, from the first of what is allowed
 abbrev pub outside : List Allowed → ℕ → List ℕ → Option Refusal
 outside all f ns = outside-from all 0 f ns

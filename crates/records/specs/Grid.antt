@@ -15,11 +15,12 @@ use Rattle.records.specs.Cause.{Refusal, refusal, first, none}
 use Rattle.records.specs.Curve.{chained}
 use Rattle.records.specs.Fields.{outside}
 
--- the numbers rise, from n on
+-- the numbers rise, the first from n
 abbrev pub rising-from : ℕ → List ℕ → Bool
 rising-from n [] = true
 rising-from n (k ∷ ks) = ltb n k && rising-from k ks
 
+-- each number is above the one before
 abbrev pub rising : List ℕ → Bool
 rising [] = true
 rising (n ∷ ns) = rising-from n ns
@@ -38,7 +39,7 @@ every (suc k) P = P k && every k P
 abbrev pub columns-hold : Rule → List ℕ → List ℕ → List ℕ → Bool
 columns-hold r widths ratios factors = every (length widths) (λ i. chained r (column (length widths) i ratios factors))
 
--- the counts are fields 2 and 3; widths (hundredths), modulus ratios and factors (thousandths) go on from 4
+-- why the lists make no grid: the counts are fields 2 and 3; widths (hundredths), modulus ratios and factors (thousandths) go on from 4
 abbrev pub lists-refusal : List ℕ → List ℕ → List ℕ → Option Refusal
 lists-refusal widths ratios factors =
     first (outside (Between 1 6 ∷ []) 2 (length widths ∷ length ratios ∷ []))
@@ -57,9 +58,11 @@ lawful-lists widths ratios factors = none (lists-refusal widths ratios factors)
 abbrev pub lists-line : List ℕ → List ℕ → List ℕ → List ℕ
 lists-line widths ratios factors = length widths ∷ length ratios ∷ (widths ++ (ratios ++ factors))
 
+-- there are as many fields as the two counts ask for; a missing count asks for none
 abbrev pub grid-complete : List ℕ → Bool
 grid-complete ns = eqb (length ns) (2 + (getD ns 0 0 + getD ns 1 0 + getD ns 1 0 * getD ns 0 0))
 
+-- why the numbers make no grid
 abbrev pub grid-refusal : List ℕ → Option Refusal
 grid-refusal ns =
     cond (grid-complete ns)

@@ -12,6 +12,7 @@ use Rattle.records.specs.declared.fields.Allowed.the-variants.{Between}
 use Rattle.records.specs.Cause.{Refusal, refusal, first}
 use Rattle.records.specs.Fields.{outside}
 
+-- what each of the eleven fields may hold
 abbrev pub section-ranges : List Allowed
 section-ranges =
     -- inside, centroid and outside diameter: mil
@@ -33,6 +34,7 @@ abbrev pub section-ordered : List ℕ → Bool
 section-ordered ns =
     ltb (getD ns 0 0) (getD ns 1 0) && (ltb (getD ns 1 0) (getD ns 2 0) && (leb (getD ns 4 0) (getD ns 3 0) && leb (getD ns 7 0) (getD ns 6 0)))
 
+-- why the numbers make no section
 abbrev pub section-refusal : List ℕ → Option Refusal
 section-refusal ns =
     cond (eqb (length ns) 11)

@@ -12,6 +12,7 @@ use Rattle.records.specs.declared.fields.Allowed.the-variants.{Between, Among}
 use Rattle.records.specs.Cause.{Refusal, refusal}
 use Rattle.records.specs.Fields.{outside}
 
+-- what each of the ten fields may hold
 abbrev pub site-ranges : List Allowed
 site-ranges =
     -- fill, trench width and water above the springline: mil
@@ -25,5 +26,6 @@ site-ranges =
     -- walls: 1 stable, 0 not; live load: 0 none, 1 truck
     ∷ Between 0 1 ∷ Between 0 1 ∷ []
 
+-- why the numbers make no site
 abbrev pub site-refusal : List ℕ → Option Refusal
 site-refusal ns = cond (eqb (length ns) 10) (outside site-ranges 2 ns) (Some (refusal Writing 0))

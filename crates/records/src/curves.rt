@@ -1,8 +1,10 @@
 ghost use mathlib.Core.Path.{_≡_};
 ghost use Prim.Native.Nat.{_*_, _≤_};
+ghost use lib.Dec.{T};
 ghost use lib.ListN.{length};
+ghost use Rattle.std.specs.Vec.{made};
 ghost use Rattle.records.specs.Cause.{answered, unless};
-ghost use Rattle.records.specs.Curve.{curve-complete, curve-refusal, paired, embedment-rules, shape-rules};
+ghost use Rattle.records.specs.Curve.{curve-complete, curve-refusal, lawful-points, paired, embedment-rules, shape-rules};
 ghost use Rattle.records.specs.Lines.{in-use, points-line, embedment-points, embedment-line, shape-points, shape-line};
 use crate::curve::EmbedmentCurve;
 use crate::curve::Points;
@@ -51,7 +53,8 @@ impl Points {
 
 // The points of a line that keeps the rules.
 fn lawful_points(rules: CurveRules, fields: &[u64]) -> Result<Points, Fault>
-    ensures { λ r. ⌜ answered points-line r ≡ unless (curve-refusal rules (now (fields .entry))) (now (fields .entry)) ⌝ }
+    ensures value { λ r. ⌜ answered points-line r ≡ unless (curve-refusal rules (now (fields .entry))) (now (fields .entry)) ⌝ }
+    ensures lawful { λ r. ⌜ made r (λ p. T (lawful-points rules (in-use p))) ⌝ }
 {
     if !curve_complete(fields) {
         return Err(Fault::MISCOUNTED);
