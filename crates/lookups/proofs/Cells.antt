@@ -64,11 +64,12 @@ unfolding mix _⊕_ _⊗_ _⊘_ whole
 level-mix k h ys = same-by (omega arith)
 
 -- between x1 and x2, the products standing in variables
-pub cell-found : (x1 x2 first second : ℕ) (x : Fraction) (low high : ℕ) → low ≡ x1 * x .den → high ≡ x2 * x .den → low < x .num → x .num ≤ high → (h : 0 < (high - x .num) + (x .num - low)) → (ys : List Fraction) → Same (mix (record { first = first; second = second; after = high - x .num; before = x .num - low; positive = h }) ys) (chord x1 (getD ys first (whole 0)) x2 (getD ys second (whole 0)) x)
+pub cell-found : (x1 x2 i : ℕ) (x : Fraction) (low high : ℕ) (c : Cell) → low ≡ x1 * x .den → high ≡ x2 * x .den → low < x .num → x .num ≤ high → c .first ≡ i - 1 → c .second ≡ i → c .after ≡ high - x .num → c .before ≡ x .num - low → (ys : List Fraction) → Same (mix c ys) (chord x1 (getD ys (i - 1) (whole 0)) x2 (getD ys i (whole 0)) x)
 unfolding mix
-cell-found x1 x2 first second x low high l u lt le h ys =
+cell-found x1 x2 i x low high c l u lt le f s a b ys =
     let w : x1 < x2 = lt-of-mul-lt-mul-right (x .den) (omega arith) in
-    chord-same x1 x2 (getD ys first (whole 0)) (getD ys second (whole 0)) x (high - x .num) (x .num - low) (x2 - x1) (omega arith) (omega arith) (omega arith) (omega arith)
+    rw (f, s, a, b)
+    (chord-same x1 x2 (getD ys (i - 1) (whole 0)) (getD ys i (whole 0)) x (high - x .num) (x .num - low) (x2 - x1) (omega arith) (omega arith) (omega arith) (omega arith))
 
 pub line-first : (xs : List ℕ) (ys : List Fraction) (x : Fraction) → 1 ≤ length xs → length ys ≡ length xs → x .num ≤ getD xs 0 0 * x .den → getD ys 0 (whole 0) ≡ line-at xs ys x
 unfolding whole

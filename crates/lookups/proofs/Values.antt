@@ -71,9 +71,9 @@ pub shape-kept : (c : ShapeCurve) (ps : List Point) → ps ≡ shape-points c �
 shape-kept c ps e = rw e (points-kept shape-rules (shape-points c) (c .lawful))
 
 -- hundredths
-pub hundred-times : (n d : ℕ) (h k : 0 < d) → Same (record { num = 100 * n; den = d; pos = h }) ((record { num = n; den = d; pos = k }) ⊗ whole 100)
+pub hundred-times : (r p : Fraction) → r .num ≡ 100 * p .num → r .den ≡ p .den → Same r (p ⊗ whole 100)
 unfolding _⊗_ whole
-hundred-times n d h k = same-by (omega arith)
+hundred-times r p e f = same-by (rw (e, f) (omega arith))
 
 pub hundredth-times : (n d : ℕ) (h : 0 < d) (k : 0 < 100 * d) → Same (record { num = n; den = d; pos = h }) ((record { num = n; den = 100 * d; pos = k }) ⊗ whole 100)
 unfolding _⊗_ whole

@@ -1,6 +1,6 @@
 ghost use mathlib.Core.List.{map};
 ghost use mathlib.Core.Path.{_≡_};
-ghost use Prim.Native.Nat.{ℕ, _+_, _*_, _^_, _<_, _≤_, max};
+ghost use Prim.Native.Nat.{ℕ, _+_, _-_, _*_, _^_, _<_, _≤_, max};
 ghost use lib.ListN.{length, getD};
 ghost use Rattle.fraction.specs.Ratio.{value};
 ghost use Rattle.lookups.specs.Cell.{Finds};
@@ -53,12 +53,7 @@ pub fn cell_of<P: Placed>(points: &[P], at: Ratio) -> Cell
     for i in 1..points.len() {
         let high = points[i].place() as u128 * at.den;
         if at.num <= high {
-            return Cell {
-                first: i - 1,
-                second: i,
-                after: high - at.num,
-                before: at.num - low,
-            };
+            return Cell::between(i, low, high, at.num);
         }
         low = high;
     }
@@ -72,6 +67,20 @@ pub fn cell_of<P: Placed>(points: &[P], at: Ratio) -> Cell
 }
 
 impl Cell {
+    // Between the points `i - 1` and `i`: the nearer one weighs more.
+    fn between(i: usize, low: u128, high: u128, at: u128) -> Self
+        requires { ⌜ 1 ≤ i ⌝ ∗ ⌜ low < at ⌝ ∗ ⌜ at ≤ high ⌝ }
+        ensures points { λ r. ⌜ r .first ≡ i - 1 ⌝ ∗ ⌜ r .second ≡ i ⌝ }
+        ensures weights { λ r. ⌜ r .after ≡ high - at ⌝ ∗ ⌜ r .before ≡ at - low ⌝ }
+    {
+        Cell {
+            first: i - 1,
+            second: i,
+            after: high - at,
+            before: at - low,
+        }
+    }
+
     /// The sum of the two values, each times its weight.
     pub fn weigh(self, first: u128, second: u128) -> u128
         requires { ⌜ first * self .after + second * self .before < 2 ^ 128 ⌝ }

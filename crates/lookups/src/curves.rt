@@ -1,3 +1,4 @@
+ghost use mathlib.Core.Path.{_≡_};
 ghost use Prim.Native.Nat.{ℕ, _*_, _^_, _<_, _≤_};
 ghost use lib.ListN.{length};
 ghost use Rattle.fraction.specs.Fraction.{Same};
@@ -32,15 +33,23 @@ fn curve_value(points: &[Point], at: Ratio) -> Ratio
     }
 }
 
+impl Pressure {
+    // In the unit of a curve's places.
+    fn hundredths(self) -> Ratio
+        ensures { λ r. ⌜ r .num ≡ 100 * self .num ⌝ ∗ ⌜ r .den ≡ self .den ⌝ }
+    {
+        Ratio {
+            num: 100 * self.num as u128,
+            den: self.den as u128,
+        }
+    }
+}
+
 /// The embedment's modulus at a pressure, exactly.
 pub fn embedment_modulus(curve: &EmbedmentCurve, pressure: Pressure) -> Modulus
     ensures { λ r. ⌜ Same (modulus-of r) (modulus-at (embedment-points (now (curve .entry))) (pressure-of pressure)) ⌝ }
 {
-    let at = Ratio {
-        num: 100 * pressure.num as u128,
-        den: pressure.den as u128,
-    };
-    let value = curve_value(curve.points(), at);
+    let value = curve_value(curve.points(), pressure.hundredths());
     Modulus {
         num: value.num as u64,
         den: value.den as u64,

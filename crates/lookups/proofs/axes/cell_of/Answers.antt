@@ -37,11 +37,14 @@ returns-then-at-high g c =
     let v = c .loop-i .inv in
     let e = map-at f ps (c .loop-i .i) (c .index-points-i .result) (c .place-in-loop-i .result) (c .loop-i-test .taken) (c .index-points-i .is) (c .place-in-loop-i .ensures) in
     let q = ap (λ t. t * c .args .at .den) e in
+    let r = c .between .result in
+    let p = c .between .ensures .points in
+    let w = c .between .ensures .weights in
     record {
-      value = λ ys k. same-to (cell-found _ _ _ _ (value (c .args .at)) _ _ (v .1) q (v .2) (c .if-at-high .taken) _ ys) (line-in (map f ps) ys (value (c .args .at)) _ _ (c .loop-i .i) _ (omega (arith, n)) (omega (arith, n)) (v .0 ys k) (rw e at (c .if-at-high .taken)));
-      first = omega arith;
-      second = omega arith;
-      small = omega (arith, v .2, c .if-at-high .taken, q);
+      value = λ ys k. same-to (cell-found _ _ _ (value (c .args .at)) _ _ r (v .1) q (v .2) (c .if-at-high .taken) (p .0) (p .1) (w .0) (w .1) ys) (line-in (map f ps) ys (value (c .args .at)) _ _ (c .loop-i .i) _ (omega (arith, n)) (omega (arith, n)) (v .0 ys k) (rw e at (c .if-at-high .taken)));
+      first = omega (arith, p .0);
+      second = omega (arith, p .1);
+      small = rw (p .1, w .0, w .1) (omega (arith, v .2, c .if-at-high .taken, q));
     }
 
 pub loop-i-again : need.loop-i-again

@@ -1,5 +1,7 @@
 use mathlib.Core.Path.{refl}
 use native.Mathlib.Omega.{arith}
+use Rattle.fraction.specs.Ratio.{value}
+use Rattle.lookups.specs.Operand.{pressure-of}
 use Rattle.records.specs.Lines.{embedment-points}
 use Rattle.lookups.proofs.Same.{same-by, same-trans}
 use Rattle.lookups.proofs.Values.{embedment-kept, hundred-times, curve-moved}
@@ -31,4 +33,4 @@ ghost-result c =
 pub returns : need.returns
 returns c =
     same-trans (same-by refl)
-    (curve-moved (c .points .result .now) (embedment-points (c .args .curve .now)) _ _ _ (c .points .ensures) (hundred-times (c .args .pressure .num) (c .args .pressure .den) _ (c .args .pressure .positive)) (c .curve-value-value .ensures .value))
+    (curve-moved (c .points .result .now) (embedment-points (c .args .curve .now)) _ _ _ (c .points .ensures) (hundred-times (value (c .hundredths .result)) (pressure-of (c .args .pressure)) (c .hundredths .ensures .0) (c .hundredths .ensures .1)) (c .curve-value-value .ensures .value))
