@@ -100,13 +100,13 @@ pub weighed : (R S A B s : ℕ) → s ≤ R → R ≤ 2000 * s → s ≤ S → S
 weighed R S A B s r1 r2 s1 s2 = (omega (arith, mul-le-mul-right A r1, mul-le-mul-right B s1), omega (arith, mul-le-mul-right A r2, mul-le-mul-right B s2))
 
 -- the two ratios as the lookups take them
-pub width-same : (b o : ℕ) (h : 0 < o) → Same (record { num = 100 * b; den = o; pos = h }) ((whole b ⊘ whole o) ⊗ whole 100)
+pub width-same : (r : Fraction) (b o : ℕ) → 0 < o → r .num ≡ 100 * b → r .den ≡ o → Same r ((whole b ⊘ whole o) ⊗ whole 100)
 unfolding _⊗_ _⊘_ whole
-width-same b o h = same-by (rw (one-max o h) (omega arith))
+width-same r b o h e f = same-by (rw (e, f, one-max o h) (omega arith))
 
-pub modulus-same : (n q p : ℕ) (h : 0 < p) (k : 0 < q) → Same (record { num = 1000 * n * q; den = p; pos = h }) ((whole n ⊘ (record { num = p; den = q; pos = k })) ⊗ whole 1000)
+pub modulus-same : (r : Fraction) (n : ℕ) (m : Fraction) → 0 < m .num → r .num ≡ 1000 * n * m .den → r .den ≡ m .num → Same r ((whole n ⊘ m) ⊗ whole 1000)
 unfolding _⊗_ _⊘_ whole
-modulus-same n q p h k = same-by (rw (one-max p h) (omega arith))
+modulus-same r n m h e f = same-by (rw (e, f, one-max (m .num) h) (omega arith))
 
 -- what the lent lists keep
 pub lent-kept : (g : SupportGrid) (ws ms fs : List ℕ) → ws ≡ grid-widths g → ms ≡ grid-ratios g → fs ≡ grid-factors g → Gridded ws ms fs

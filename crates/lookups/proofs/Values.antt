@@ -79,9 +79,9 @@ pub hundredth-times : (n d : ℕ) (h : 0 < d) (k : 0 < 100 * d) → Same (record
 unfolding _⊗_ whole
 hundredth-times n d h k = same-by (omega arith)
 
-pub over-hundred : (x y : Fraction) (k : 0 < 100 * x .den) → Same x y → Same (record { num = x .num; den = 100 * x .den; pos = k }) (y ⊘ whole 100)
+pub over-hundred : (r x y : Fraction) → r .num ≡ x .num → r .den ≡ 100 * x .den → Same x y → Same r (y ⊘ whole 100)
 unfolding _⊘_ whole
-over-hundred x y k h = same-trans (same-by (omega arith)) (same-over-by (whole 100) h)
+over-hundred r x y e f h = same-trans (same-by (rw (e, f) (omega arith))) (same-over-by (whole 100) h)
 
 -- the points are the curve's, and the operand is the same number
 pub curve-moved : (ps qs : List Point) (r x y : Fraction) → ps ≡ qs → Same x y → Same r (curve-at ps x) → Same r (curve-at qs y)

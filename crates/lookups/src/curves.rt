@@ -56,6 +56,17 @@ pub fn embedment_modulus(curve: &EmbedmentCurve, pressure: Pressure) -> Modulus
     }
 }
 
+// A hundredth of the value.
+fn hundredth(value: Ratio) -> Ratio
+    requires { ⌜ 100 * value .den < 2 ^ 128 ⌝ }
+    ensures { λ r. ⌜ r .num ≡ value .num ⌝ ∗ ⌜ r .den ≡ 100 * value .den ⌝ }
+{
+    Ratio {
+        num: value.num,
+        den: 100 * value.den,
+    }
+}
+
 /// The shape factor at a pipe stiffness, exactly.
 pub fn shape_factor(curve: &ShapeCurve, stiffness: Stiffness) -> Ratio
     ensures value { λ r. ⌜ Same (value r) (shape-at (shape-points (now (curve .entry))) (stiffness-of stiffness)) ⌝ }
@@ -68,8 +79,5 @@ pub fn shape_factor(curve: &ShapeCurve, stiffness: Stiffness) -> Ratio
         den: stiffness.den as u128,
     };
     let value = curve_value(curve.points(), at);
-    Ratio {
-        num: value.num,
-        den: 100 * value.den,
-    }
+    hundredth(value)
 }

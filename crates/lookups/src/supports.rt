@@ -48,6 +48,26 @@ fn crossed(factors: &[u64], wide: usize, across: Cell, along: Cell) -> Ratio
     }
 }
 
+// The trench width over the outside diameter, hundredths.
+fn width_ratio(section: &Section, site: &Site) -> Ratio
+    ensures { λ r. ⌜ r .num ≡ 100 * now (site .entry) .trench ⌝ ∗ ⌜ r .den ≡ now (section .entry) .outside ⌝ }
+{
+    Ratio {
+        num: 100 * site.trench as u128,
+        den: section.outside as u128,
+    }
+}
+
+// The native over the embedment's modulus, thousandths.
+fn modulus_ratio(site: &Site, modulus: Modulus) -> Ratio
+    ensures { λ r. ⌜ r .num ≡ 1000 * now (site .entry) .«native_modulus» * modulus .den ⌝ ∗ ⌜ r .den ≡ modulus .num ⌝ }
+{
+    Ratio {
+        num: 1_000 * site.native_modulus as u128 * modulus.den as u128,
+        den: modulus.num as u128,
+    }
+}
+
 /// The support factor of a grid at the trench width over the outside diameter and the native over the embedment's
 /// modulus, exactly.
 pub fn support_factor(grid: &SupportGrid, section: &Section, site: &Site, modulus: Modulus) -> Ratio
@@ -62,19 +82,7 @@ pub fn support_factor(grid: &SupportGrid, section: &Section, site: &Site, modulu
     let widths = grid.widths();
     let ratios = grid.ratios();
     let factors = grid.factors();
-    let across = cell_of(
-        widths,
-        Ratio {
-            num: 100 * site.trench as u128,
-            den: section.outside as u128,
-        },
-    );
-    let along = cell_of(
-        ratios,
-        Ratio {
-            num: 1_000 * site.native_modulus as u128 * modulus.den as u128,
-            den: modulus.num as u128,
-        },
-    );
+    let across = cell_of(widths, width_ratio(section, site));
+    let along = cell_of(ratios, modulus_ratio(site, modulus));
     crossed(factors, widths.len(), across, along)
 }
