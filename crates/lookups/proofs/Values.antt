@@ -1,10 +1,10 @@
 -- A curve's value from its cell, and the numbers that it takes.
-use mathlib.Core.Path.{_≡_, sym, _∙_, ap}
+use mathlib.Core.Path.{_≡_, sym, _∙_}
 use mathlib.Core.List.{List, map}
 use Prim.Native.Nat.{ℕ, _+_, _*_, _^_, _≤_, _<_, max}
-use native.Mathlib.Nat.{mul-le-mul, mul-le-mul-right}
+use native.Mathlib.Nat.{mul-le-mul-right}
 use native.Mathlib.Omega.{arith}
-use lib.ListN.{length, getD, length-map, List·getD-map}
+use lib.ListN.{getD, length-map, List·getD-map}
 use Rattle.fraction.specs.Fraction.{Fraction, Same, whole, _⊕_, _⊗_, _⊘_}
 use Rattle.lookups.specs.Cell.{mix, Finds}
 use Rattle.lookups.specs.Lookup.{curve-at}

@@ -1,9 +1,9 @@
 ghost use mathlib.Core.Path.{_≡_};
-ghost use Prim.Native.Nat.{ℕ, _*_, _^_, _<_, _≤_};
+ghost use Prim.Native.Nat.{_*_, _^_, _<_, _≤_};
 ghost use lib.ListN.{length};
 ghost use Rattle.fraction.specs.Fraction.{Same};
 ghost use Rattle.fraction.specs.Ratio.{value};
-ghost use Rattle.lookups.specs.Cell.{Bounds, NoLower, NoHigher, NoFurther};
+ghost use Rattle.lookups.specs.Cell.{Bounds, NoHigher, NoFurther};
 ghost use Rattle.lookups.specs.Lookup.{curve-at, modulus-at, shape-at};
 ghost use Rattle.lookups.specs.Operand.{pressure-of, stiffness-of, modulus-of};
 ghost use Rattle.records.specs.Lines.{embedment-points, shape-points};

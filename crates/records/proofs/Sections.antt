@@ -8,7 +8,7 @@ use borrow.Author.Tests.{eqb-true}
 use lib.Dec.{lit<, eqb}
 use lib.ListN.{length, getD}
 use Rattle.std.specs.declared.option.Option.the-variants.{Some, None}
-use Rattle.std.specs.declared.result.Result.the-variants.{Ok, Err}
+use Rattle.std.specs.declared.result.Result.the-variants.{Ok}
 use Rattle.records.specs.Cause.{refusal, first, unless}
 use Rattle.std.proofs.shelf.Ways.{tells}
 use Rattle.records.specs.declared.fault.Cause.the-variants.{Order, Writing}

@@ -1,13 +1,12 @@
 -- What makes the points of a curve lawful.
-use mathlib.Core.Bool.{Bool, true, false, cond, not, _&&_}
+use mathlib.Core.Bool.{Bool, true, cond, not, _&&_}
 use mathlib.Core.List.{List, [], _∷_}
 use Prim.Native.Nat.{ℕ, _+_, _-_, _*_, min}
 use lib.Dec.{ltb, leb, eqb}
 use lib.ListN.{length, getD, take, drop}
 use Rattle.std.specs.declared.option.Option.{Option}
 use Rattle.std.specs.declared.option.Option.the-variants.{Some, None}
-use Rattle.records.specs.declared.fault.Cause.the-variants.{Range, Order, Steep, Writing}
-use Rattle.records.specs.declared.fields.Allowed.{Allowed}
+use Rattle.records.specs.declared.fault.Cause.the-variants.{Order, Steep, Writing}
 use Rattle.records.specs.declared.fields.Allowed.the-variants.{Between}
 use Rattle.records.specs.declared.point.Point.{Point}
 use Rattle.records.specs.declared.point.Rule.{Rule}

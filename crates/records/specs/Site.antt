@@ -5,7 +5,7 @@ use Prim.Native.Nat.{ℕ}
 use lib.Dec.{eqb}
 use lib.ListN.{length}
 use Rattle.std.specs.declared.option.Option.{Option}
-use Rattle.std.specs.declared.option.Option.the-variants.{Some, None}
+use Rattle.std.specs.declared.option.Option.the-variants.{Some}
 use Rattle.records.specs.declared.fault.Cause.the-variants.{Writing}
 use Rattle.records.specs.declared.fields.Allowed.{Allowed}
 use Rattle.records.specs.declared.fields.Allowed.the-variants.{Between, Among}

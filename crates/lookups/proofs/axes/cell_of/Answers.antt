@@ -1,8 +1,8 @@
-use Prim.Native.Nat.{_-_, _+_, _*_, _<_, _≤_}
-use mathlib.Core.Path.{_≡_, ap, sym}
+use Prim.Native.Nat.{_-_, _+_, _*_}
+use mathlib.Core.Path.{_≡_, ap}
 use mathlib.Core.List.{map}
 use native.Mathlib.Omega.{arith}
-use lib.ListN.{getD, length, length-map}
+use lib.ListN.{length-map}
 use Rattle.fraction.specs.Ratio.{value}
 use Rattle.lookups.proofs.Same.{same-to}
 use Rattle.lookups.proofs.Cells.{level-mix, line-first, line-past-first, line-in, line-on, line-last, cell-found, map-at}

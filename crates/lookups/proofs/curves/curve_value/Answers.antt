@@ -1,4 +1,3 @@
-use mathlib.Core.Path.{sym}
 use native.Mathlib.Omega.{arith}
 use Rattle.fraction.specs.Ratio.{value}
 use Rattle.lookups.proofs.Values.{fitting, mean-least, mean-most, weights-most, places-at, value-same}

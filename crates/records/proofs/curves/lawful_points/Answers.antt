@@ -1,9 +1,7 @@
-use mathlib.Core.Path.{_≡_, sym, _∙_, ap}
-use lib.ListN.{take, drop, length}
-use Prim.Native.Nat.{_-_}
+use mathlib.Core.Path.{_∙_, ap}
 use Rattle.std.proofs.shelf.Results.{err-from-errBy}
 use Rattle.records.specs.declared.point.Rule.the-variants.{Gentle}
-use Rattle.records.specs.Curve.{chained, curve-line, paired}
+use Rattle.records.specs.Curve.{chained}
 use Rattle.records.proofs.CurveLines.{field-refused, order-broken, steep, kept, line-lawful}
 use Rattle.records.proofs.curves.lawful_points.Needs as need
 

@@ -1,6 +1,4 @@
-use mathlib.Core.Path.{_∙_, ap}
 use native.Mathlib.Nat.{mod-lt, add-assoc}
-use Rattle.records.specs.Fields.{outside-from}
 use Rattle.records.proofs.Ranges.{outside-stop, outside-on, outside-end}
 use Rattle.records.proofs.fields.in_ranges.Needs as need
 

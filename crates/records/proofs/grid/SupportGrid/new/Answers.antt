@@ -1,4 +1,3 @@
-use native.Mathlib.Omega.{arith}
 use lib.Dec.{lit<}
 use Rattle.std.proofs.shelf.Results.{err-from-errBy}
 use Rattle.records.proofs.GridLines.{few-factors, factors-length, few, lists-refused, held-full, held-lawful, held-line}
