@@ -1,30 +1,23 @@
 -- The ways through a grid's line, and what a lawful grid keeps.
-use mathlib.Core.Path.{_≡_, refl, sym, _∙_, ap, subst}
-use mathlib.Core.Bool.{Bool, true, false}
+use mathlib.Core.Path.{_≡_, refl, sym, _∙_, ap}
+use mathlib.Core.Bool.{true}
 use mathlib.Core.List.{List, [], _∷_, _++_}
-use Prim.Native.Nat.{ℕ, suc, _+_, _-_, _*_, _≤_, _<_}
+use Prim.Native.Nat.{ℕ, _+_, _-_, _*_, _≤_, _<_}
 use native.Mathlib.Nat.{mul-le-mul}
 use native.Mathlib.Omega.{arith}
 use borrow.Author.Tests.{eqb-true}
 use lib.Dec.{T, lit<}
 use lib.ListN.{length, getD, take, drop, length-take, length-drop, take-append-drop}
 use lib.Seq.{take-all, drop-drop}
-use Rattle.std.specs.declared.option.Option.{Option}
 use Rattle.std.specs.declared.option.Option.the-variants.{Some, None}
 use Rattle.std.specs.declared.result.Result.the-variants.{Ok, Err}
+use Rattle.records.specs.declared.grid.SupportGrid.{SupportGrid}
 use Rattle.records.specs.declared.fields.Allowed.the-variants.{Between}
-use Rattle.records.specs.Cause.{Refusal, first, none, unless}
+use Rattle.records.specs.Cause.{Refusal, unless}
 use Rattle.records.specs.Fields.{outside}
 use Rattle.records.specs.Grid.{lists-refusal, lawful-lists, lists-line, grid-complete, grid-refusal}
-use Rattle.records.proofs.Ranges.{allowed-at, between}
-
-first-none : (a b : Option Refusal) → None ≡ first a b → (None ≡ a) × (None ≡ b)
-first-none None b e = (refl, e)
-first-none (Some x) b e = let z : _≡_ {A = ℕ} 0 1 = cc in absurd (omega arith)
-
-pub none-found : (o : Option Refusal) → T (none o) → None ≡ o
-none-found None t = refl
-none-found (Some x) t = absurd t
+use Rattle.records.specs.Lines.{grid-widths, grid-ratios, grid-factors}
+use Rattle.records.proofs.Ranges.{first-none, none-found, allowed-at, between, each-between}
 
 -- what the ranges keep
 pub record Kept (ws ms fs : List ℕ) : Type 0 where
@@ -131,6 +124,9 @@ module _ (ns : List ℕ) (complete : true ≡ grid-complete ns) where
     pub held-lawful : T (lawful-lists (take (wide-of ns) a) (take (deep-of ns) b) (take (deep-of ns * wide-of ns) c))
     held-lawful = rw (held-a, held-b, held-c, ← found) tt
 
+    pub held-full : length (take (deep-of ns * wide-of ns) c) ≡ length (take (deep-of ns) b) * length (take (wide-of ns) a)
+    held-full = rw (held-a, held-b, held-c, widths-length, ratios-length) factors-length
+
     pub held-line : Ok (lists-line (take (wide-of ns) a) (take (deep-of ns) b) (take (deep-of ns * wide-of ns) c)) ≡ unless (grid-refusal ns) ns
     held-line = rw (held-a, held-b, held-c, line-refusal, ← found) (ap (λ (l : List ℕ). Ok l) line-back)
 
@@ -138,3 +134,24 @@ module _ (ns : List ℕ) (complete : true ≡ grid-complete ns) where
   few e =
       let k = lists-kept (widths-cut ns) (ratios-cut ns) (factors-cut ns) e in
       (omega (arith, k .wide, widths-length), omega (arith, k .deep, ratios-length))
+
+-- what a grid keeps, for those who read it
+pub record Gridded (ws ms fs : List ℕ) : Type 0 where
+  pub wide : (1 ≤ length ws) × (length ws ≤ 6)
+  pub deep : (1 ≤ length ms) × (length ms ≤ 6)
+  pub full : length fs ≡ length ms * length ws
+  pub widths : (k : ℕ) → k < length ws → (100 ≤ getD ws k 0) × (getD ws k 0 ≤ 1000)
+  pub ratios : (k : ℕ) → k < length ms → (5 ≤ getD ms k 0) × (getD ms k 0 ≤ 5000)
+  pub factors : (k : ℕ) → k < length fs → (1 ≤ getD fs k 0) × (getD fs k 0 ≤ 2000)
+
+pub gridded : (g : SupportGrid) → Gridded (grid-widths g) (grid-ratios g) (grid-factors g)
+gridded g =
+    let k = lists-kept (grid-widths g) (grid-ratios g) (grid-factors g) (none-found (lists-refusal (grid-widths g) (grid-ratios g) (grid-factors g)) (g .lawful)) in
+    record {
+      wide = k .wide;
+      deep = k .deep;
+      full = g .full;
+      widths = each-between 100 1000 _ (grid-widths g) (k .widths);
+      ratios = each-between 5 5000 _ (grid-ratios g) (k .ratios);
+      factors = each-between 1 2000 _ (grid-factors g) (k .factors);
+    }

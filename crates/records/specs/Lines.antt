@@ -41,11 +41,17 @@ in-use p = take (p .count) (p .held)
 abbrev pub points-line : Points → List ℕ
 points-line p = curve-line (in-use p)
 
+abbrev pub embedment-points : EmbedmentCurve → List Point
+embedment-points c = in-use (c .points)
+
+abbrev pub shape-points : ShapeCurve → List Point
+shape-points c = in-use (c .points)
+
 abbrev pub embedment-line : EmbedmentCurve → List ℕ
-embedment-line c = points-line (c .points)
+embedment-line c = curve-line (embedment-points c)
 
 abbrev pub shape-line : ShapeCurve → List ℕ
-shape-line c = points-line (c .points)
+shape-line c = curve-line (shape-points c)
 
 -- the widths, modulus ratios and factors of a grid that are in use
 abbrev pub grid-widths : SupportGrid → List ℕ

@@ -3,7 +3,7 @@ ghost use Prim.Native.Nat.{_*_, _≤_};
 ghost use lib.ListN.{length};
 ghost use Rattle.records.specs.Cause.{answered, unless};
 ghost use Rattle.records.specs.Curve.{curve-complete, curve-refusal, paired, embedment-rules, shape-rules};
-ghost use Rattle.records.specs.Lines.{in-use, points-line, embedment-line, shape-line};
+ghost use Rattle.records.specs.Lines.{in-use, points-line, embedment-points, embedment-line, shape-points, shape-line};
 use crate::curve::EmbedmentCurve;
 use crate::curve::Points;
 use crate::curve::ShapeCurve;
@@ -104,7 +104,7 @@ impl EmbedmentCurve {
     }
 
     pub fn points(&self) -> &[Point]
-        ensures { λ r. ⌜ now r ≡ in-use (now (self .entry) .points) ⌝ }
+        ensures { λ r. ⌜ now r ≡ embedment-points (now (self .entry)) ⌝ }
     {
         self.points.in_use()
     }
@@ -128,7 +128,7 @@ impl ShapeCurve {
     }
 
     pub fn points(&self) -> &[Point]
-        ensures { λ r. ⌜ now r ≡ in-use (now (self .entry) .points) ⌝ }
+        ensures { λ r. ⌜ now r ≡ shape-points (now (self .entry)) ⌝ }
     {
         self.points.in_use()
     }

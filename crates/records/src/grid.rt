@@ -1,6 +1,7 @@
+ghost use mathlib.Core.Path.{_≡_};
 ghost use Prim.Native.Nat.{_*_, _≤_};
 ghost use lib.Dec.{T};
-ghost use lib.ListN.{take};
+ghost use lib.ListN.{length, take};
 ghost use Rattle.records.specs.Grid.{lawful-lists};
 
 /// How far the native soil and the trench support the embedment.
@@ -16,5 +17,6 @@ pub struct SupportGrid {
     pub(crate) deep: usize,
     ghost narrow: { wide ≤ 6 },
     ghost shallow: { deep ≤ 6 },
+    ghost full: { length (take (deep * wide) factors) ≡ length (take deep ratios) * length (take wide widths) },
     ghost lawful: { T (lawful-lists (take wide widths) (take deep ratios) (take (deep * wide) factors)) },
 }

@@ -1,7 +1,7 @@
 use native.Mathlib.Omega.{arith}
 use lib.Dec.{lit<}
 use Rattle.std.proofs.shelf.Results.{err-from-errBy}
-use Rattle.records.proofs.GridLines.{few-factors, factors-length, few, lists-refused, held-lawful, held-line}
+use Rattle.records.proofs.GridLines.{few-factors, factors-length, few, lists-refused, held-full, held-lawful, held-line}
 use Rattle.records.proofs.grid.SupportGrid.new.Needs as need
 
 pub returns-in-Break-check-lists : need.returns-in-Break-check-lists
@@ -22,7 +22,7 @@ ghost-result c =
     let complete = c .if-not-grid-complete .ensures tt in
     let found = c .in-Continue-check-lists .ensures tt in
     let k = few ns complete found in
-    (k .0, (k .1, (held-lawful ns complete found _ _ _ (c .held .ensures) (c .held-2 .ensures) (c .held-3 .ensures), tt)))
+    (k .0, (k .1, (held-full ns complete found _ _ _ (c .held .ensures) (c .held-2 .ensures) (c .held-3 .ensures), (held-lawful ns complete found _ _ _ (c .held .ensures) (c .held-2 .ensures) (c .held-3 .ensures), tt))))
 
 pub returns : need.returns
 returns c =

@@ -1,0 +1,4 @@
+pub mod Cell
+pub mod Line
+pub mod Lookup
+pub mod Operand
