@@ -1,2 +1,4 @@
+pub mod Bilinear
 pub mod Cells
 pub mod Same
+pub mod Values

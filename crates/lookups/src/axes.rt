@@ -1,6 +1,6 @@
 ghost use mathlib.Core.List.{map};
 ghost use mathlib.Core.Path.{_≡_};
-ghost use Prim.Native.Nat.{ℕ, _+_, _*_, _^_, _<_, _≤_};
+ghost use Prim.Native.Nat.{ℕ, _+_, _*_, _^_, _<_, _≤_, max};
 ghost use lib.ListN.{length, getD};
 ghost use Rattle.fraction.specs.Ratio.{value};
 ghost use Rattle.lookups.specs.Cell.{Finds};
@@ -39,7 +39,7 @@ pub fn cell_of<P: Placed>(points: &[P], at: Ratio) -> Cell
     ensures value { λ r. ⌜ Finds (map spot (now (points .entry))) (value at) r ⌝ }
     ensures first { λ r. ⌜ r .first < length (now (points .entry)) ⌝ }
     ensures second { λ r. ⌜ r .second < length (now (points .entry)) ⌝ }
-    ensures small { λ r. ⌜ r .after + r .before ≤ getD (map spot (now (points .entry))) (r .second) 0 * at .den + 1 ⌝ }
+    ensures small { λ r. ⌜ r .after + r .before ≤ max 1 (getD (map spot (now (points .entry))) (r .second) 0 * at .den) ⌝ }
 {
     let mut low = points[0].place() as u128 * at.den;
     if at.num <= low {
@@ -68,5 +68,15 @@ pub fn cell_of<P: Placed>(points: &[P], at: Ratio) -> Cell
         second: last,
         after: 1,
         before: 0,
+    }
+}
+
+impl Cell {
+    /// The sum of the two values, each times its weight.
+    pub fn weigh(self, first: u128, second: u128) -> u128
+        requires { ⌜ first * self .after + second * self .before < 2 ^ 128 ⌝ }
+        ensures { λ r. ⌜ r ≡ first * self .after + second * self .before ⌝ }
+    {
+        first * self.after + second * self.before
     }
 }
