@@ -15,11 +15,11 @@ unfoldable pub fully-supported : Design → Bool
 fully-supported d =
     at-most (whole 3 ⊗ outside-diameter d) (trench-width d) || (not (at-most (whole 120) (fill-depth d)) && d .site .«stable_walls»)
 
--- Sc: support factor, the grid at (Bd/Do, Msn/Msb) where support is not full
+-- Sc: support factor, the grid at (Bd/Do, Msn/Msb) where support is not full; both widths are in mil
 unfoldable pub support-factor : Design → Fraction
 support-factor d =
     cond (fully-supported d) (whole 1)
-    (support-at (d .widths) (d .ratios) (d .factors) (trench-width d ⊘ outside-diameter d) (native-modulus d ⊘ embedment-modulus d))
+    (support-at (d .widths) (d .ratios) (d .factors) (whole (d .site .trench) ⊘ whole (d .section .outside)) (native-modulus d ⊘ embedment-modulus d))
 
 -- Ms = Sc Msb, psi: modulus of the soil
 unfoldable pub soil-modulus : Design → Fraction
