@@ -64,3 +64,6 @@ module _ {E : Type 0} {m : Model E} where
 -- of one enclosure, under another name
 pub known-at : {E : Type 0} {m : Model E} {n a b c d : ℕ} {x : Fraction} {e f : E} → e ≡ f → Known m n a b c d x f → Known m n a b c d x e
 known-at {m} {n} {a} {b} {c} {d} {x} h k = subst (λ e. Known m n a b c d x e) (sym h) k
+
+pub known-is : {E : Type 0} {m : Model E} {n a b c d : ℕ} {x y : Fraction} {e : E} → x ≡ y → Known m n a b c d x e → Known m n a b c d y e
+known-is {m} {n} {a} {b} {c} {d} {e} h k = subst (λ x. Known m n a b c d x e) h k

@@ -1,3 +1,5 @@
 mod Known
 mod Quantities
 mod Ranges
+mod Pressing
+mod Supports

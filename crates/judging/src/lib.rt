@@ -3,6 +3,8 @@ mod case;
 mod cases;
 mod fields;
 mod formulas;
+mod loads;
 mod measures;
+mod soils;
 
 pub use case::Case;
