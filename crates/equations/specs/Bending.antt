@@ -12,12 +12,12 @@ unfoldable pub computed-stiffness : Design → Fraction
 computed-stiffness d = short-modulus d ⊗ wall-moment d ⊘ (thousandths 149 ⊗ cubed (centroid-diameter d ⊘ whole 2))
 
 -- PS, psi: pipe stiffness, as the section gives it, or computed where it gives 0
-unfoldable pub stiffness : Design → Fraction
-stiffness d = cond (eqb (d .section .stiffness) 0) (computed-stiffness d) (hundredths (d .section .stiffness))
+unfoldable pub pipe-stiffness : Design → Fraction
+pipe-stiffness d = cond (eqb (d .section .stiffness) 0) (computed-stiffness d) (hundredths (d .section .stiffness))
 
 -- Df: shape factor at the pipe stiffness
 unfoldable pub shape-factor : Design → Fraction
-shape-factor d = shape-at (d .shape) (stiffness d)
+shape-factor d = shape-at (d .shape) (pipe-stiffness d)
 
 -- max(Do - D, D - Di), in: twice the distance from the centroid to the farther face of the wall
 unfoldable pub farther-face : Design → Fraction

@@ -67,3 +67,6 @@ known-at {m} {n} {a} {b} {c} {d} {x} h k = subst (λ e. Known m n a b c d x e) (
 
 pub known-is : {E : Type 0} {m : Model E} {n a b c d : ℕ} {x y : Fraction} {e : E} → x ≡ y → Known m n a b c d x e → Known m n a b c d y e
 known-is {m} {n} {a} {b} {c} {d} {e} h k = subst (λ x. Known m n a b c d x e) h k
+
+pub perhaps-at : {E : Type 0} (m : Model E) (n a b c d : ℕ) (x : Fraction) {o p : Option E} → o ≡ p → Perhaps m n a b c d x p → Perhaps m n a b c d x o
+perhaps-at m n a b c d x h k = subst (λ o. Perhaps m n a b c d x o) (sym h) k

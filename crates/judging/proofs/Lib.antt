@@ -3,3 +3,4 @@ mod Quantities
 mod Ranges
 mod Pressing
 mod Supports
+mod Working

@@ -140,3 +140,15 @@ module _ {E : Type 0} {m : Model E} (s : Sound m) where
     deflection-known dl ds l D es =
         let both = plus-known {k = 120} {e = 1} {f = 10 ^ 15} {g = 10 ^ 8} {h = 1} 121 1 (10 ^ 11) (2 * 10 ^ 8) 1 (live-deflection d) dl ds l (λ v q. tt) tt in
         known s (as-tree m .add (leaf both) (as-tree m .mul (leaf D) (leaf es))) 300 1 (10 ^ 10) (10 ^ 9) 1 tt
+
+    pub thrust-strain-known : {t elt area : E} (p : Option E) → Thrust m d (design-thrust d) t → Modulus m d (long-modulus d) elt → LivePart m d p → Area m d (effective-area d) area → Strain m d (thrust-strain d) (computed m .div (plus-of (computed m) (computed m .div t elt) p) area)
+    unfolding thrust-strain
+    thrust-strain-known p t elt lp area = strain-known (design-thrust d) (live-part d) (effective-area d) p t elt lp area
+
+    pub least-strain-known : {t elt area : E} (p : Option E) → Thrust m d (least-thrust d) t → Modulus m d (long-modulus d) elt → LivePart m d p → Area m d (effective-area d) area → Strain m d (least-strain d) (computed m .div (plus-of (computed m) (computed m .div t elt) p) area)
+    unfolding least-strain
+    least-strain-known p t elt lp area = strain-known (least-thrust d) (live-part d) (effective-area d) p t elt lp area
+
+    pub service-strain-known : {t elt area : E} (p : Option E) → Thrust m d (service-thrust d) t → Modulus m d (long-modulus d) elt → Perhaps m 160 1 (10 ^ 16) 1000 1 (live-thrust d ⊘ live-modulus d) p → Area m d (gross-area d) area → Strain m d (service-strain d) (computed m .div (plus-of (computed m) (computed m .div t elt) p) area)
+    unfolding service-strain
+    service-strain-known p t elt lp area = strain-known (service-thrust d) (live-thrust d ⊘ live-modulus d) (gross-area d) p t elt lp area

@@ -3,3 +3,4 @@ pub mod Known
 pub mod Formulas
 pub mod Quantities
 pub mod Measured
+pub mod Worked

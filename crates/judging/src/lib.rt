@@ -6,5 +6,7 @@ mod formulas;
 mod loads;
 mod measures;
 mod soils;
+mod work;
+mod worked;
 
 pub use case::Case;
