@@ -4,3 +4,5 @@ mod Ranges
 mod Pressing
 mod Supports
 mod Working
+mod Bends
+mod Sides

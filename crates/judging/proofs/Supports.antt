@@ -46,11 +46,11 @@ pub pair-same : (n k : ℕ) (pos : 0 < k) → Same (whole n ⊘ whole k) (record
 unfolding _⊘_ whole
 pair-same n k pos = same-by (rw (order.one-max k pos) (omega arith))
 
-at-least-pair : (a b n k : ℕ) (p : 0 < b) → 0 < k → a * k ≤ n * b → ratio a b p ≼ whole n ⊘ whole k
+pub at-least-pair : (a b n k : ℕ) (p : 0 < b) → 0 < k → a * k ≤ n * b → ratio a b p ≼ whole n ⊘ whole k
 unfolding ratio _⊘_ whole
 at-least-pair a b n k p pos h = record { cross = rw (order.one-max k pos) (omega (arith, h)) }
 
-at-most-pair : (c d n k : ℕ) (q : 0 < d) → 0 < k → n * d ≤ c * k → whole n ⊘ whole k ≼ ratio c d q
+pub at-most-pair : (c d n k : ℕ) (q : 0 < d) → 0 < k → n * d ≤ c * k → whole n ⊘ whole k ≼ ratio c d q
 unfolding ratio _⊘_ whole
 at-most-pair c d n k q pos h = record { cross = rw (order.one-max k pos) (omega (arith, h)) }
 

@@ -4,3 +4,5 @@ pub mod Formulas
 pub mod Quantities
 pub mod Measured
 pub mod Worked
+pub mod Answers
+pub mod Judged
