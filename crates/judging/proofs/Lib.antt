@@ -6,3 +6,5 @@ mod Supports
 mod Working
 mod Bends
 mod Sides
+mod Marks
+mod ReadingOut

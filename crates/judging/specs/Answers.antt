@@ -2,6 +2,7 @@
 use mathlib.Core.Bool.{Bool, true, false, cond, _||_}
 use mathlib.Core.List.{List, [], _∷_}
 use Prim.Native.Nat.{ℕ}
+use lib.Dec.{eqb}
 use Rattle.std.specs.declared.option.Option.{Option}
 use Rattle.std.specs.declared.option.Option.the-variants.{Some, None}
 use Rattle.judging.specs.declared.answer.Figure.{Figure}
@@ -87,3 +88,15 @@ decided None b = cond b NoVerdict Accepted
 -- rejected naming the first that fails, else undecided if one is, else accepted
 abbrev pub verdict-of : List State → Verdict
 verdict-of ss = decided (first-failing limit-states ss) (any-unsettled ss)
+
+-- the figure of a number
+abbrev pub figure-list : List Figure
+figure-list =
+    PrismPressure ∷ SoilModulus ∷ HoopStiffness ∷ VerticalArching ∷ DesignThrust ∷ ThrustStrain ∷ ServiceStrain ∷ DeflectionFigure ∷ []
+
+abbrev pub numbered-in : ℕ → List Figure → Option Figure
+numbered-in n [] = None
+numbered-in n (f ∷ fs) = cond (eqb n (figure-number f)) (Some f) (numbered-in n fs)
+
+abbrev pub figure-numbered : ℕ → Option Figure
+figure-numbered n = numbered-in n figure-list

@@ -6,3 +6,4 @@ pub mod Measured
 pub mod Worked
 pub mod Answers
 pub mod Judged
+pub mod Claim

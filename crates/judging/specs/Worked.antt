@@ -1,8 +1,11 @@
 -- The quantities of a design, as enclosures.
+use Prim.Native.Nat.{ℕ, _^_}
 use Rattle.enclosure.specs.Model.{Model}
 use Rattle.equations.specs.Design.{Design}
 use Rattle.equations.specs.Thrust.{design-thrust}
 use Rattle.equations.specs.Strains.{thrust-strain, least-strain, service-strain}
+use Rattle.equations.specs.Figures.{figure, figure-millionths}
+use Rattle.judging.specs.Known.{Known}
 use Rattle.judging.specs.Quantities.{Prism, Soil, Hoop, Arching, LoadFactor, Thrust, LengthShare, LiveThrust, Strain, Deflects, Live as LivePressure}
 use Rattle.judging.specs.declared.worked.Live.{Live}
 use Rattle.judging.specs.declared.worked.Worked.{Worked}
@@ -23,3 +26,10 @@ pub record WorkedKnown {E : Type 0} (m : Model E) (d : Design) (w : Worked E) : 
   pub least : Strain m d (least-strain d) (w .«least_strain»)
   pub service : Strain m d (service-strain d) (w .«service_strain»)
   pub deflection : Deflects m d (w .deflection)
+
+-- a figure by its number, and that figure in millionths
+abbrev pub FigureKnown : {E : Type 0} → Model E → Design → ℕ → E → Type 0
+FigureKnown m d k e = Known m 300 1 (10 ^ 10) (10 ^ 9) 1 (figure k d) e
+
+abbrev pub MillionthsKnown : {E : Type 0} → Model E → Design → ℕ → E → Type 0
+MillionthsKnown m d k e = Known m 302 1 (10 ^ 4) (10 ^ 15) 1 (figure-millionths k d) e
