@@ -8,3 +8,4 @@ mod Bends
 mod Sides
 mod Marks
 mod ReadingOut
+mod Meanings

@@ -12,11 +12,14 @@ use Rattle.enclosure.specs.Formula.{Made}
 use Rattle.equations.specs.Units.{hundredths}
 use Rattle.equations.specs.Design.{Design}
 use Rattle.equations.specs.Limits.{left, right, buoyant}
-use Rattle.judging.specs.Answers.{state-number, mark-number, states, verdict-of}
+use Rattle.judging.specs.Answers.{state-number, limit-number, mark-number, states, verdict-of}
+use Rattle.judging.specs.declared.answer.LimitState.{LimitState}
 use Rattle.judging.specs.declared.answer.Mark.{Mark}
 use Rattle.judging.specs.declared.answer.Mark.the-variants.{Right, Wrong, Unmarked}
 use Rattle.judging.specs.declared.answer.State.{State}
 use Rattle.judging.specs.declared.answer.State.the-variants.{Holds, Fails, Undecided, NotApplied}
+use Rattle.judging.specs.declared.answer.Verdict.{Verdict}
+use Rattle.judging.specs.declared.answer.Verdict.the-variants.{Accepted, Rejected, Undecided as NoVerdict}
 use Rattle.judging.specs.declared.sheet.Sheet.{Sheet}
 
 -- an enclosure of x that the arithmetic's own operations made from whole numbers
@@ -49,6 +52,23 @@ pub record SheetJudged {E : Type 0} (m : Model E) (d : Design) (s : Sheet) : Typ
   pub flexibility : Judged m (left 6 d) (right 6 d) (s .flexibility)
   pub buoyancy : Asked (buoyant d) (Judged m (left 7 d) (right 7 d) (s .buoyancy)) (s .buoyancy)
   pub verdict : s .verdict ≡ verdict-of (states s)
+
+-- accepted: every inequality that applies is met
+pub record Met (d : Design) : Type 0 where
+  pub thrust : left 1 d ≼ right 1 d
+  pub net-tension : left 2 d ≼ right 2 d
+  pub combined : left 3 d ≼ right 3 d
+  pub deflection : left 4 d ≼ right 4 d
+  pub buckling : left 5 d ≼ right 5 d
+  pub flexibility : left 6 d ≼ right 6 d
+  pub buoyancy : buoyant d ≡ true → left 7 d ≼ right 7 d
+
+-- what a verdict means: accepted, every inequality is met; rejected, the one that it names is broken; undecided, the
+-- sides of one are within 10000 / w of the larger
+pub record Means (w : ℕ) (d : Design) (v : Verdict) : Type 0 where
+  pub accepted : v ≡ Accepted → Met d
+  pub rejected : (l : LimitState) → v ≡ Rejected l → right (limit-number l) d ≺ left (limit-number l) d
+  pub undecided : v ≡ NoVerdict → (l : LimitState) × Band w 10000 (left (limit-number l) d) (right (limit-number l) d)
 
 -- the edges of a claim of c millionths: 99 c / 100 and 101 c / 100
 abbrev pub low-edge : ℕ → Fraction

@@ -1,6 +1,6 @@
 ghost use Rattle.equations.specs.Limits.{left, right, buoyant};
 ghost use Rattle.judging.specs.Case.{design-of};
-ghost use Rattle.judging.specs.Judged.{Judged, Asked, SheetJudged};
+ghost use Rattle.judging.specs.Judged.{Judged, Asked, SheetJudged, Means};
 ghost use Rattle.judging.specs.Measured.{Measured};
 ghost use Rattle.judging.specs.Quantities.{Bending};
 ghost use Rattle.judging.specs.Worked.{WorkedKnown};
@@ -117,7 +117,8 @@ fn buoyancy<A: Arithmetic>(case: &Case, measures: &Measures<A>, worked: &Worked<
 
 /// The states of the seven limit states, and the verdict.
 pub fn judge<A: Arithmetic>(case: &Case) -> Sheet
-    ensures { λ r. ⌜ SheetJudged model (design-of (now (case .entry))) r ⌝ }
+    ensures states { λ r. ⌜ SheetJudged model (design-of (now (case .entry))) r ⌝ }
+    ensures verdict { λ r. ⌜ Means (model .fineness) (design-of (now (case .entry))) (r .verdict) ⌝ }
 {
     let measures = Measures::<A>::of(case);
     let worked = Worked::of(case, &measures);
