@@ -1,0 +1,4 @@
+pub mod Arching
+pub mod Prism
+pub mod Forms
+mod Table

@@ -1,0 +1,13 @@
+pub mod Units
+pub mod Design
+pub mod Pressures
+pub mod LiveLoad
+pub mod Soil
+pub mod Thrust
+pub mod Strains
+pub mod Bending
+pub mod Deflection
+pub mod Figures
+pub mod Limits
+pub mod Regrouped
+pub mod Tabulated

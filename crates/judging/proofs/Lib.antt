@@ -1,0 +1,11 @@
+mod Known
+mod Quantities
+mod Ranges
+mod Pressing
+mod Supports
+mod Working
+mod Bends
+mod Sides
+mod Marks
+mod ReadingOut
+mod Meanings

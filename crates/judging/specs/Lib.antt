@@ -1,0 +1,9 @@
+pub mod Case
+pub mod Known
+pub mod Formulas
+pub mod Quantities
+pub mod Measured
+pub mod Worked
+pub mod Answers
+pub mod Judged
+pub mod Claim

@@ -1,0 +1,35 @@
+-- The quantities of a design, as enclosures.
+use Prim.Native.Nat.{ℕ, _^_}
+use Rattle.enclosure.specs.Model.{Model}
+use Rattle.equations.specs.Design.{Design}
+use Rattle.equations.specs.Thrust.{design-thrust}
+use Rattle.equations.specs.Strains.{thrust-strain, least-strain, service-strain}
+use Rattle.equations.specs.Figures.{figure, figure-millionths}
+use Rattle.judging.specs.Known.{Known}
+use Rattle.judging.specs.Quantities.{Prism, Soil, Hoop, Arching, LoadFactor, Thrust, LengthShare, LiveThrust, Strain, Deflects, Live as LivePressure}
+use Rattle.judging.specs.declared.worked.Live.{Live}
+use Rattle.judging.specs.declared.worked.Worked.{Worked}
+
+pub record LiveKnown {E : Type 0} (m : Model E) (d : Design) (l : Live E) : Type 0 where
+  pub share : LengthShare m d (l .share)
+  pub pressure : LivePressure m d (l .pressure)
+  pub thrust : LiveThrust m d (l .thrust)
+
+pub record WorkedKnown {E : Type 0} (m : Model E) (d : Design) (w : Worked E) : Type 0 where
+  pub prism : Prism m d (w .prism)
+  pub modulus : Soil m d (w .modulus)
+  pub hoop : Hoop m d (w .hoop)
+  pub arching : Arching m d (w .arching)
+  pub load : LoadFactor m d (w .«load_factor»)
+  pub design : Thrust m d (design-thrust d) (w .«design_thrust»)
+  pub thrust : Strain m d (thrust-strain d) (w .«thrust_strain»)
+  pub least : Strain m d (least-strain d) (w .«least_strain»)
+  pub service : Strain m d (service-strain d) (w .«service_strain»)
+  pub deflection : Deflects m d (w .deflection)
+
+-- a figure by its number, and that figure in millionths
+abbrev pub FigureKnown : {E : Type 0} → Model E → Design → ℕ → E → Type 0
+FigureKnown m d k e = Known m 300 1 (10 ^ 10) (10 ^ 9) 1 (figure k d) e
+
+abbrev pub MillionthsKnown : {E : Type 0} → Model E → Design → ℕ → E → Type 0
+MillionthsKnown m d k e = Known m 302 1 (10 ^ 4) (10 ^ 15) 1 (figure-millionths k d) e
