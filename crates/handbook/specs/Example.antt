@@ -1,7 +1,7 @@
 -- The worked example's pressures, and what is said of them.
 use mathlib.Core.Bool.{Bool, _&&_}
 use Prim.Native.Nat.{ℕ, _*_, _^_}
-use lib.Dec.{lit<}
+use lib.Dec.{leb, lit<}
 use Rattle.std.specs.declared.option.Option.{Option}
 use Rattle.fraction.specs.Fraction.{Fraction, whole, _⊗_}
 use Rattle.fraction.specs.Ratio.{value, at-most}
@@ -24,3 +24,7 @@ Bounded x b = Under (b .0) (value x ⊗ whole (10 ^ 6)) × Over (b .1) (value x 
 abbrev pub agrees : Fraction → ℕ → Bool
 agrees x printed =
     at-most (record { num = 98 * printed; den = 1000; pos = lit< tt }) x && at-most x (record { num = 102 * printed; den = 1000; pos = lit< tt })
+
+-- the same of bounds a and b, and of printed millionths
+abbrev pub bounds-agree : (a b printed : ℕ) → Bool
+bounds-agree a b printed = leb (98 * printed) (100 * a) && leb (100 * b) (102 * printed)
