@@ -1,11 +1,4 @@
-mod Known
-mod Quantities
-mod Ranges
-mod Pressing
-mod Supports
-mod Working
-mod Bends
-mod Sides
+mod Compared
 mod Marks
 mod ReadingOut
 mod Meanings

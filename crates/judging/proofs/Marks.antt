@@ -16,14 +16,14 @@ use Rattle.enclosure.proofs.Trees.{Tree, as-tree, field, closed}
 use Rattle.equations.specs.Design.{Design}
 use Rattle.equations.specs.Figures.{figure, figure-millionths}
 use Rattle.judging.specs.Answers.{mark-number, figure-number}
-use Rattle.judging.specs.Formulas.{parts-of}
+use Rattle.quantities.specs.Formulas.{parts-of}
 use Rattle.judging.specs.Judged.{Marked, mark-of, low-edge, high-edge}
-use Rattle.judging.specs.Known.{Known}
-use Rattle.judging.specs.Worked.{WorkedKnown, FigureKnown, MillionthsKnown}
+use Rattle.quantities.specs.Known.{Known}
+use Rattle.judging.specs.Figured.{FigureKnown, MillionthsKnown}
 use Rattle.judging.specs.declared.answer.Figure.{Figure}
 use Rattle.judging.specs.declared.answer.Mark.{Mark}
-use Rattle.judging.proofs.Known.{leaf, known, known-at}
-use Rattle.judging.proofs.Sides.{enclosure-of}
+use Rattle.quantities.proofs.Known.{leaf, known, known-at}
+use Rattle.judging.proofs.Compared.{enclosure-of}
 
 -- which answers a mark comes from
 both-yes : (u v : Comparison) → mark-of (number u) (number v) ≡ 1 → (number u ≡ 1) × (number v ≡ 1)

@@ -19,7 +19,7 @@ use Rattle.enclosure.specs.Readings.{readable, read-below, read-above}
 use Rattle.enclosure.proofs.Closeness.{fine-positive}
 use Rattle.lookups.proofs.Same.{same-by}
 use Rattle.judging.specs.Judged.{ReadOutOf}
-use Rattle.judging.specs.Known.{Known}
+use Rattle.quantities.specs.Known.{Known}
 
 abbrev floor-of : Fraction → ℕ
 floor-of x = x .num / x .den

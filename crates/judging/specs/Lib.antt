@@ -1,9 +1,5 @@
-pub mod Case
-pub mod Known
-pub mod Formulas
-pub mod Quantities
-pub mod Measured
-pub mod Worked
 pub mod Answers
+pub mod Sides
 pub mod Judged
 pub mod Claim
+pub mod Figured

@@ -1,21 +1,21 @@
 ghost use mathlib.Core.Path.{_≡_};
 ghost use Rattle.enclosure.specs.Answer.{number};
 ghost use Rattle.judging.specs.Answers.{mark-number, figure-number, figure-numbered};
-ghost use Rattle.judging.specs.Case.{design-of};
+ghost use Rattle.quantities.specs.Case.{design-of};
 ghost use Rattle.judging.specs.Claim.{claimed, stated-claim};
 ghost use Rattle.judging.specs.Judged.{Marked, ReadOutOf, mark-of};
-ghost use Rattle.judging.specs.Worked.{WorkedKnown, FigureKnown, MillionthsKnown};
+ghost use Rattle.judging.specs.Figured.{FigureKnown, MillionthsKnown};
+ghost use Rattle.quantities.specs.Worked.{WorkedKnown};
 ghost use Rattle.equations.specs.Figures.{figure-millionths};
 use crate::answer::Figure;
 use crate::answer::Mark;
-use crate::case::Case;
 use crate::claim::Claimed;
-use crate::fields::parts;
-use crate::measures::Measures;
-use crate::worked::Worked;
 use enclosure::Arithmetic;
 use enclosure::Comparison;
 use enclosure::ReadOut;
+use quantities::Case;
+use quantities::Worked;
+use quantities::parts;
 
 impl Figure {
     /// The figure of this number, from 1 to 8.
@@ -48,30 +48,27 @@ impl Claimed {
     }
 }
 
-impl<A: Arithmetic> Worked<A> {
-    fn figure(&self, case: &Case, figure: Figure) -> A
-        requires { ⌜ WorkedKnown model (design-of (now case)) (now self) ⌝ }
-        ensures { λ r. ⌜ FigureKnown model (design-of (now (case .entry))) (figure-number figure) r ⌝ }
-    {
-        match figure {
-            Figure::PrismPressure => self.prism,
-            Figure::SoilModulus => self.modulus,
-            Figure::HoopStiffness => self.hoop,
-            Figure::VerticalArching => self.arching,
-            Figure::DesignThrust => self.design_thrust,
-            Figure::ThrustStrain => self.thrust_strain,
-            Figure::ServiceStrain => self.service_strain,
-            Figure::Deflection => self.deflection,
-        }
+fn chosen<A: Arithmetic>(case: &Case, worked: &Worked<A>, figure: Figure) -> A
+    requires { ⌜ WorkedKnown model (design-of (now case)) (now worked) ⌝ }
+    ensures { λ r. ⌜ FigureKnown model (design-of (now (case .entry))) (figure-number figure) r ⌝ }
+{
+    match figure {
+        Figure::PrismPressure => worked.prism,
+        Figure::SoilModulus => worked.modulus,
+        Figure::HoopStiffness => worked.hoop,
+        Figure::VerticalArching => worked.arching,
+        Figure::DesignThrust => worked.design_thrust,
+        Figure::ThrustStrain => worked.thrust_strain,
+        Figure::ServiceStrain => worked.service_strain,
+        Figure::Deflection => worked.deflection,
     }
 }
 
 fn millionths<A: Arithmetic>(case: &Case, figure: Figure) -> A
     ensures { λ r. ⌜ MillionthsKnown model (design-of (now (case .entry))) (figure-number figure) r ⌝ }
 {
-    let measures = Measures::<A>::of(case);
-    let worked = Worked::of(case, &measures);
-    let value = worked.figure(case, figure);
+    let worked = Worked::<A>::of(case);
+    let value = chosen(case, &worked, figure);
     value.mul(A::whole(1_000_000))
 }
 

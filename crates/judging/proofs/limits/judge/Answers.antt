@@ -1,4 +1,4 @@
-use Rattle.judging.specs.Case.{design-of}
+use Rattle.quantities.specs.Case.{design-of}
 use Rattle.judging.specs.Judged.{SheetJudged}
 use Rattle.judging.proofs.Meanings.{means}
 use Rattle.judging.proofs.limits.judge.Needs as need

@@ -1,5 +1,5 @@
-use Rattle.judging.specs.Case.{design-of}
-use Rattle.judging.proofs.Sides.{thrust-side}
+use Rattle.quantities.specs.Case.{design-of}
+use Rattle.judging.proofs.Compared.{thrust-side}
 use Rattle.judging.proofs.limits.thrust.Needs as need
 
 pub returns : need.returns

@@ -1,6 +1,6 @@
 use Rattle.equations.specs.Figures.{figure-millionths}
 use Rattle.judging.specs.Answers.{figure-number}
-use Rattle.judging.specs.Case.{design-of}
+use Rattle.quantities.specs.Case.{design-of}
 use Rattle.judging.proofs.Marks.{marked-by}
 use Rattle.judging.proofs.marking.mark.Needs as need
 
