@@ -6,6 +6,7 @@ use digits::Decimal;
 use digits::DecimalArithmetic;
 use digits::DecimalReadOut;
 use enclosure::Arithmetic;
+use enclosure::ReadOut;
 use judging::Claimed;
 use judging::Figure;
 use judging::Mark;
@@ -17,6 +18,7 @@ use judging::judge;
 use judging::mark;
 use quantities::Case;
 use records::EmbedmentCurve;
+use records::Fault;
 use records::Section;
 use records::ShapeCurve;
 use records::Site;
@@ -64,24 +66,24 @@ fn letters(s: Sheet) -> [u8; 8] {
     ]
 }
 
-// Whether both arithmetics give this sheet for the section on the site, with the sample's curves and grid.
+// The sheets of the section on the site, with the sample's curves and grid, in both arithmetics.
+fn sheets(section: &[u64], site: &[u64]) -> Result<([u8; 8], [u8; 8]), Fault> {
+    let section = Section::new(section)?;
+    let embedment = EmbedmentCurve::new(&[2, 1_000, 1_625, 2_000, 1_800])?;
+    let shape = ShapeCurve::new(&[2, 3_600, 350, 7_200, 280])?;
+    let grid = SupportGrid::new(&[2, 2, 175, 200, 800, 1_000, 900, 930, 1_000, 1_000])?;
+    let site = Site::new(site)?;
+    let case = Case::new(section, &embedment, &shape, &grid, site)?;
+    Ok((
+        letters(judge::<Binary>(&case)),
+        letters(judge::<Decimal>(&case)),
+    ))
+}
+
 fn check_sheet(section: &[u64], site: &[u64], expected: &[u8; 8]) -> Result<(), Fail> {
-    let section = Section::new(section).ok().ok_or("section")?;
-    let embedment = EmbedmentCurve::new(&[2, 1_000, 1_625, 2_000, 1_800])
-        .ok()
-        .ok_or("embedment")?;
-    let shape = ShapeCurve::new(&[2, 3_600, 350, 7_200, 280])
-        .ok()
-        .ok_or("shape")?;
-    let grid = SupportGrid::new(&[2, 2, 175, 200, 800, 1_000, 900, 930, 1_000, 1_000])
-        .ok()
-        .ok_or("grid")?;
-    let site = Site::new(site).ok().ok_or("site")?;
-    let case = Case::new(section, &embedment, &shape, &grid, site)
-        .ok()
-        .ok_or("case")?;
-    check_eq(letters(judge::<Binary>(&case)), *expected)?;
-    check_eq(letters(judge::<Decimal>(&case)), *expected)
+    let (binary, decimal) = sheets(section, site).ok().ok_or("refused")?;
+    check_eq(binary, *expected)?;
+    check_eq(decimal, *expected)
 }
 
 #[test]
@@ -307,67 +309,44 @@ fn sections() -> Result<(), Fail> {
     )
 }
 
-fn mark_letter<A: Arithmetic>(case: &Case, wanted: Figure, claim: u64) -> Option<u8> {
-    let claim = Claimed::new(claim)?;
-    Some(
-        match mark::<A>(case, wanted, claim) {
-            Mark::Right => b'R',
-            Mark::Wrong => b'W',
-            Mark::Unmarked => b'X',
-        },
-    )
+fn mark_letter<A: Arithmetic>(case: &Case, claim: u64) -> u8 {
+    let Some(claim) = Claimed::new(claim) else {
+        return b'-';
+    };
+    match mark::<A>(case, Figure::PrismPressure, claim) {
+        Mark::Right => b'R',
+        Mark::Wrong => b'W',
+        Mark::Unmarked => b'X',
+    }
+}
+
+// The prism pressure of the first sample case and the marks of claims on it, in an arithmetic.
+fn marks<A: ReadOut>() -> Result<((u64, u64), [u8; 7]), Fault> {
+    let section = Section::new(&SECTION)?;
+    let embedment = EmbedmentCurve::new(&[2, 1_000, 1_625, 2_000, 1_800])?;
+    let shape = ShapeCurve::new(&[2, 3_600, 350, 7_200, 280])?;
+    let grid = SupportGrid::new(&[2, 2, 175, 200, 800, 1_000, 900, 930, 1_000, 1_000])?;
+    let site = Site::new(&[180_000, 78_000, 96_000, 1_200, 1_360, 130, 150, 1_500, 0, 1])?;
+    let case = Case::new(section, &embedment, &shape, &grid, site)?;
+    let letters = [
+        mark_letter::<A>(&case, 10_700_000),
+        mark_letter::<A>(&case, 10_000_000),
+        mark_letter::<A>(&case, 10_559_185),
+        mark_letter::<A>(&case, 10_559_187),
+        mark_letter::<A>(&case, 10_772_502),
+        mark_letter::<A>(&case, 10_772_503),
+        mark_letter::<A>(&case, 0),
+    ];
+    Ok((figure::<A>(&case, Figure::PrismPressure), letters))
 }
 
 // The exact prism pressure is 10,664,777 and 7/9 millionths: 100/101 of it is 10,559,185.9.., 100/99 of it 10,772,502.8..
 #[test]
 fn claims_at_both_edges() -> Result<(), Fail> {
-    let section = Section::new(&SECTION).ok().ok_or("section")?;
-    let embedment = EmbedmentCurve::new(&[2, 1_000, 1_625, 2_000, 1_800])
-        .ok()
-        .ok_or("embedment")?;
-    let shape = ShapeCurve::new(&[2, 3_600, 350, 7_200, 280])
-        .ok()
-        .ok_or("shape")?;
-    let grid = SupportGrid::new(&[2, 2, 175, 200, 800, 1_000, 900, 930, 1_000, 1_000])
-        .ok()
-        .ok_or("grid")?;
-    let site = Site::new(&[180_000, 78_000, 96_000, 1_200, 1_360, 130, 150, 1_500, 0, 1])
-        .ok()
-        .ok_or("site")?;
-    let case = Case::new(section, &embedment, &shape, &grid, site)
-        .ok()
-        .ok_or("case")?;
-    check_eq(
-        figure::<Binary>(&case, Figure::PrismPressure),
-        (10_664_777, 10_664_778),
-    )?;
-    check_eq(
-        figure::<Decimal>(&case, Figure::PrismPressure),
-        (10_664_777, 10_664_778),
-    )?;
-    check_eq(
-        mark_letter::<Binary>(&case, Figure::PrismPressure, 10_700_000),
-        Some(b'R'),
-    )?;
-    check_eq(
-        mark_letter::<Decimal>(&case, Figure::PrismPressure, 10_000_000),
-        Some(b'W'),
-    )?;
-    check_eq(
-        mark_letter::<Binary>(&case, Figure::PrismPressure, 10_559_185),
-        Some(b'W'),
-    )?;
-    check_eq(
-        mark_letter::<Binary>(&case, Figure::PrismPressure, 10_559_186),
-        Some(b'R'),
-    )?;
-    check_eq(
-        mark_letter::<Decimal>(&case, Figure::PrismPressure, 10_772_502),
-        Some(b'R'),
-    )?;
-    check_eq(
-        mark_letter::<Decimal>(&case, Figure::PrismPressure, 10_772_503),
-        Some(b'W'),
-    )?;
-    check_eq(mark_letter::<Binary>(&case, Figure::PrismPressure, 0), None)
+    let (binary, in_binary) = marks::<Binary>().ok().ok_or("refused")?;
+    let (decimal, in_decimal) = marks::<Decimal>().ok().ok_or("refused")?;
+    check_eq(binary, (10_664_777, 10_664_778))?;
+    check_eq(decimal, (10_664_777, 10_664_778))?;
+    check_eq(in_binary, *b"RWWRRW-")?;
+    check_eq(in_decimal, *b"RWWRRW-")
 }
