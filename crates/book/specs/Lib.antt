@@ -1,0 +1,3 @@
+pub mod Register
+pub mod Law
+pub mod Shelves
