@@ -1,3 +1,4 @@
 pub mod Register
 pub mod Law
 pub mod Shelves
+pub mod Told

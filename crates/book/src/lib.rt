@@ -7,3 +7,4 @@ mod shelf;
 pub use book::Book;
 pub use kind::Kind;
 pub use kind::check_place;
+pub use record::lines_tell_records;

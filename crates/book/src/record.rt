@@ -2,6 +2,7 @@ ghost use mathlib.Core.List.{List};
 ghost use mathlib.Core.Path.{_≡_};
 ghost use Prim.Native.Nat.{ℕ};
 ghost use Rattle.std.specs.declared.option.Option.{Option};
+ghost use Rattle.book.specs.Told.{Told};
 ghost use Rattle.records.specs.Cause.{Refusal, answered, unless};
 ghost use Rattle.records.specs.Curve.{curve-refusal, embedment-rules, shape-rules};
 ghost use Rattle.records.specs.Grid.{grid-refusal};
@@ -75,3 +76,8 @@ pub impl Record for Site as SiteRecord {
         Site::new(fields)
     }
 }
+
+/// Fields tell the record: two of one kind that have the same line are the same, as far as anything reads them.
+pub fn lines_tell_records()
+    ensures { λ _. ⌜ Told ⌝ }
+{}
