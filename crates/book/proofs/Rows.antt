@@ -42,11 +42,12 @@ outside l place (inr h) =
     rw (ne-eqb place 0 (h .0)) (sym (getD-past l (place - 1) None k))
 
 -- what was put at a place stands there
-pub stands : {R : Type 0} (line : R → List ℕ) (l : List (Option R)) (place : ℕ) (o : Option R) (held : Option (List ℕ))
-    → 1 ≤ place → place - 1 < length l → mapped line o ≡ held → in-place (lines line (set l (place - 1) o)) place ≡ held
-stands line l place o held p h e =
+pub stands : {R : Type 0} (line : R → List ℕ) (l l′ : List (Option R)) (place : ℕ) (o : Option R) (held : Option (List ℕ))
+    → l′ ≡ set l (place - 1) o → 1 ≤ place → place ≤ length l → mapped line o ≡ held → in-place (lines line l′) place ≡ held
+stands line l l′ place o held w p n e =
     let ne : place ≡ 0 → ⊥ = λ z. omega arith in
-    sym (line-in-place line (set l (place - 1) o) place) ∙ rw (ne-eqb place 0 ne, getD-set-same l (place - 1) o None h) e
+    let h : place - 1 < length l = omega arith in
+    sym (line-in-place line l′ place) ∙ rw (w, ne-eqb place 0 ne, getD-set-same l (place - 1) o None h) e
 
 -- at every other place stands what stood there
 pub others : (l : Row) (place other : ℕ) (held : Option (List ℕ)) → 1 ≤ place → (other ≡ place → ⊥)
@@ -64,9 +65,9 @@ pub from-one : (f n place : ℕ) → None ≡ place-refusal f n place → 1 ≤ 
 from-one f n place e = elim (cases-eq place 0) [ inl z ↦ let q : _≡_ {A = ℕ} 0 1 = let r : None ≡ Some (refusal Place f) = rw z at e in cc in absurd (omega arith) | inr z ↦ omega arith ]
 
 -- what a write to a shelf does to its lines
-pub lines-set : {R : Type 0} (line : R → List ℕ) (l : List (Option R)) (i : ℕ) (o : Option R) (held : Option (List ℕ)) → mapped line o ≡ held
-    → lines line (set l i o) ≡ set (lines line l) i held
-lines-set line l i o held e = let m = map-set (mapped line) l i o in cc
+pub lines-set : {R : Type 0} (line : R → List ℕ) (l l′ : List (Option R)) (i : ℕ) (o : Option R) (held : Option (List ℕ))
+    → l′ ≡ set l i o → mapped line o ≡ held → lines line l′ ≡ set (lines line l) i held
+lines-set line l l′ i o held w e = let m = map-set (mapped line) l i o in rw w (cc)
 
 -- neither of two refusals
 pub neither : (a b : Option Refusal) → None ≡ a → None ≡ b → None ≡ first a b

@@ -1,6 +1,6 @@
 ghost use mathlib.Core.Path.{_≡_};
-ghost use Prim.Native.Nat.{_-_};
-ghost use lib.ListN.{set};
+ghost use Prim.Native.Nat.{_-_, _≤_};
+ghost use lib.ListN.{length, set};
 ghost use Rattle.std.specs.Options.{mapped};
 ghost use Rattle.std.specs.Results.{Cases};
 ghost use Rattle.std.specs.Vec.{made};
@@ -29,6 +29,15 @@ fn held_at<T>(places: &[Option<T>], place: u64) -> Option<&T>
 }
 
 impl<T: Record, const N: usize> Shelf<T, N> {
+    // Puts something else at a place.
+    fn put(&mut self, place: u64, held: Option<T>)
+        requires { ⌜ 1 ≤ place ⌝ ∗ ⌜ place ≤ N ⌝ }
+        ensures written { λ _. ⌜ now (self .exit) .places ≡ set (now (self .entry) .places) (place - 1) held ⌝ }
+        ensures within { λ _. ⌜ place ≤ length (now (self .entry) .places) ⌝ }
+    {
+        self.places[place as usize - 1] = held;
+    }
+
     /// Puts the record of these fields at the place, whatever the place held.
     pub fn enter(&mut self, place: u64, fields: &[u64]) -> Result<(), Fault>
         ensures answer { λ r. ⌜ refused r ≡ first (place-refusal 1 N place) (T·Record .refusal (now (fields .entry))) ⌝ }
@@ -39,7 +48,7 @@ impl<T: Record, const N: usize> Shelf<T, N> {
     {
         check_place(1, N as u64, place)?;
         let record = T::of_fields(fields)?;
-        self.places[place as usize - 1] = Some(record);
+        self.put(place, Some(record));
         Ok(())
     }
 
@@ -58,7 +67,7 @@ impl<T: Record, const N: usize> Shelf<T, N> {
                 field: 2,
             });
         }
-        self.places[place as usize - 1] = None;
+        self.put(place, None);
         Ok(())
     }
 
