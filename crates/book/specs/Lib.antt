@@ -1,0 +1,4 @@
+pub mod Register
+pub mod Law
+pub mod Shelves
+pub mod Told

@@ -1,0 +1,3 @@
+//! Tests of the book: replacement, withdrawal, and refusals that leave the book as it was.
+#[cfg(test)]
+mod books;
