@@ -14,16 +14,16 @@ use enclosure::Arithmetic;
 use quantities::{Case, Worked, cube, parts};
 
 fn thrust<A: Arithmetic>(case: &Case, worked: &Worked<A>) -> State
-    requires { WorkedKnown model (design_of case.now) worked.now }
-    ensures { Judged model (left 1 (design_of case.now)) (right 1 (design_of case.now)) result }
+    requires { WorkedKnown A.model (design_of case.now) worked.now }
+    ensures { Judged A.model (left 1 (design_of case.now)) (right 1 (design_of case.now)) result }
 {
     let allowed = parts(case.section.compression_limit, 10_000);
     state(worked.thrust_strain, allowed)
 }
 
 fn net_tension<A: Arithmetic>(case: &Case, worked: &Worked<A>) -> State
-    requires { WorkedKnown model (design_of case.now) worked.now }
-    ensures { Judged model (left 2 (design_of case.now)) (right 2 (design_of case.now)) result }
+    requires { WorkedKnown A.model (design_of case.now) worked.now }
+    ensures { Judged A.model (left 2 (design_of case.now)) (right 2 (design_of case.now)) result }
 {
     let bent = bending_strain(
         worked.bending,
@@ -41,8 +41,8 @@ fn net_tension<A: Arithmetic>(case: &Case, worked: &Worked<A>) -> State
 }
 
 fn combined<A: Arithmetic>(case: &Case, worked: &Worked<A>) -> State
-    requires { WorkedKnown model (design_of case.now) worked.now }
-    ensures { Judged model (left 3 (design_of case.now)) (right 3 (design_of case.now)) result }
+    requires { WorkedKnown A.model (design_of case.now) worked.now }
+    ensures { Judged A.model (left 3 (design_of case.now)) (right 3 (design_of case.now)) result }
 {
     let bent = bending_strain(
         worked.bending,
@@ -56,8 +56,8 @@ fn combined<A: Arithmetic>(case: &Case, worked: &Worked<A>) -> State
 }
 
 fn deflection<A: Arithmetic>(case: &Case, worked: &Worked<A>) -> State
-    requires { WorkedKnown model (design_of case.now) worked.now }
-    ensures { Judged model (left 4 (design_of case.now)) (right 4 (design_of case.now)) result }
+    requires { WorkedKnown A.model (design_of case.now) worked.now }
+    ensures { Judged A.model (left 4 (design_of case.now)) (right 4 (design_of case.now)) result }
 {
     let share = parts::<A>(5, 100);
     let allowed = share.mul(worked.measures.inside);
@@ -65,8 +65,8 @@ fn deflection<A: Arithmetic>(case: &Case, worked: &Worked<A>) -> State
 }
 
 fn buckling<A: Arithmetic>(case: &Case, worked: &Worked<A>) -> State
-    requires { WorkedKnown model (design_of case.now) worked.now }
-    ensures { Judged model (left 5 (design_of case.now)) (right 5 (design_of case.now)) result }
+    requires { WorkedKnown A.model (design_of case.now) worked.now }
+    ensures { Judged A.model (left 5 (design_of case.now)) (right 5 (design_of case.now)) result }
 {
     let strain = cube(worked.thrust_strain);
     let allowed = buckling_cube(
@@ -81,8 +81,8 @@ fn buckling<A: Arithmetic>(case: &Case, worked: &Worked<A>) -> State
 }
 
 fn flexible<A: Arithmetic>(case: &Case, worked: &Worked<A>) -> State
-    requires { WorkedKnown model (design_of case.now) worked.now }
-    ensures { Judged model (left 6 (design_of case.now)) (right 6 (design_of case.now)) result }
+    requires { WorkedKnown A.model (design_of case.now) worked.now }
+    ensures { Judged A.model (left 6 (design_of case.now)) (right 6 (design_of case.now)) result }
 {
     let give = flexibility(
         worked.measures.centroid,
@@ -94,8 +94,8 @@ fn flexible<A: Arithmetic>(case: &Case, worked: &Worked<A>) -> State
 }
 
 fn buoyancy<A: Arithmetic>(case: &Case, worked: &Worked<A>) -> State
-    requires { WorkedKnown model (design_of case.now) worked.now }
-    ensures { Asked (buoyant (design_of case.now)) (Judged model (left 7 (design_of case.now)) (right 7 (design_of case.now)) result) result }
+    requires { WorkedKnown A.model (design_of case.now) worked.now }
+    ensures { Asked (buoyant (design_of case.now)) (Judged A.model (left 7 (design_of case.now)) (right 7 (design_of case.now)) result) result }
 {
     if case.site.water == 0 {
         return State::NotApplied;
@@ -107,8 +107,8 @@ fn buoyancy<A: Arithmetic>(case: &Case, worked: &Worked<A>) -> State
 
 /// The states of the seven limit states, and the verdict.
 pub fn judge<A: Arithmetic>(case: &Case) -> Sheet
-    ensures states { SheetJudged model (design_of case.now) result }
-    ensures verdict { Means model.fineness (design_of case.now) result.verdict }
+    ensures states { SheetJudged A.model (design_of case.now) result }
+    ensures verdict { Means A.model.fineness (design_of case.now) result.verdict }
 {
     let worked = Worked::<A>::of(case);
     let thrust = thrust(case, &worked);

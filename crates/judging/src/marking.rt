@@ -47,8 +47,8 @@ impl Claimed {
 }
 
 fn chosen<A: Arithmetic>(case: &Case, worked: &Worked<A>, figure: Figure) -> A
-    requires { WorkedKnown model (design_of case.now) worked.now }
-    ensures { FigureKnown model (design_of case.now) (figure_number figure) result }
+    requires { WorkedKnown A.model (design_of case.now) worked.now }
+    ensures { FigureKnown A.model (design_of case.now) (figure_number figure) result }
 {
     match figure {
         Figure::PrismPressure => worked.prism,
@@ -63,8 +63,8 @@ fn chosen<A: Arithmetic>(case: &Case, worked: &Worked<A>, figure: Figure) -> A
 }
 
 fn millionths<A: Arithmetic>(case: &Case, worked: &Worked<A>, figure: Figure) -> A
-    requires { WorkedKnown model (design_of case.now) worked.now }
-    ensures { MillionthsKnown model (design_of case.now) (figure_number figure) result }
+    requires { WorkedKnown A.model (design_of case.now) worked.now }
+    ensures { MillionthsKnown A.model (design_of case.now) (figure_number figure) result }
 {
     let value = chosen(case, worked, figure);
     value.mul(A::whole(1_000_000))
@@ -88,8 +88,8 @@ fn mark_worked<A: Arithmetic>(
     figure: Figure,
     claim: Claimed,
 ) -> Mark
-    requires { WorkedKnown model (design_of case.now) worked.now }
-    ensures { Marked model claim.value (figure_millionths (figure_number figure) (design_of case.now)) result }
+    requires { WorkedKnown A.model (design_of case.now) worked.now }
+    ensures { Marked A.model claim.value (figure_millionths (figure_number figure) (design_of case.now)) result }
 {
     let value = millionths(case, worked, figure);
     let low = parts::<A>(99 * claim.value, 100);
@@ -101,7 +101,7 @@ fn mark_worked<A: Arithmetic>(
 
 /// Marks a claim on a figure: right within one hundredth of the claim, wrong outside.
 pub fn mark<A: Arithmetic>(case: &Case, figure: Figure, claim: Claimed) -> Mark
-    ensures { Marked model claim.value (figure_millionths (figure_number figure) (design_of case.now)) result }
+    ensures { Marked A.model claim.value (figure_millionths (figure_number figure) (design_of case.now)) result }
 {
     let worked = Worked::<A>::of(case);
     mark_worked(case, &worked, figure, claim)
@@ -109,8 +109,8 @@ pub fn mark<A: Arithmetic>(case: &Case, figure: Figure, claim: Claimed) -> Mark
 
 // Writes the mark of a claim beside it, if the claim can be marked.
 fn mark_one<A: Arithmetic>(case: &Case, worked: &Worked<A>, claim: &mut Claim)
-    requires { WorkedKnown model (design_of case.now) worked.now }
-    ensures { ClaimMarked model (design_of case.now) claim.old claim.new }
+    requires { WorkedKnown A.model (design_of case.now) worked.now }
+    ensures { ClaimMarked A.model (design_of case.now) claim.old claim.new }
 {
     let Some(figure) = Figure::numbered(claim.figure) else {
         return;
@@ -123,7 +123,7 @@ fn mark_one<A: Arithmetic>(case: &Case, worked: &Worked<A>, claim: &mut Claim)
 
 /// Writes beside each claim the mark that it earns; a claim that is on no figure, or out of range, stays as it is.
 pub fn mark_all<A: Arithmetic>(case: &Case, claims: &mut [Claim])
-    ensures { ClaimsMarked model (design_of case.now) claims.old claims.new }
+    ensures { ClaimsMarked A.model (design_of case.now) claims.old claims.new }
 {
     let worked = Worked::<A>::of(case);
     for claim in claims.iter_mut() {

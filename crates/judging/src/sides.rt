@@ -7,19 +7,19 @@ use enclosure::Arithmetic;
 use quantities::{cube, parts, square};
 
 pub(crate) fn bending_strain<A: Arithmetic>(bending: A, inside: A, centroid: A) -> A
-    ensures { result ≡ bending_strain_of (computed model) bending inside centroid }
+    ensures { result ≡ bending_strain_of (computed A.model) bending inside centroid }
 {
     parts::<A>(5, 100).mul(bending).mul(inside).div(centroid)
 }
 
 pub(crate) fn tension_allowed<A: Arithmetic>(limit: A, least: A, bending: A, service: A) -> A
-    ensures { result ≡ tension_allowed_of (computed model) limit least bending service }
+    ensures { result ≡ tension_allowed_of (computed A.model) limit least bending service }
 {
     limit.add(least).add(bending.mul(service))
 }
 
 pub(crate) fn compression_allowed<A: Arithmetic>(limit: A, bending: A, service: A) -> A
-    ensures { result ≡ compression_allowed_of (computed model) limit bending service }
+    ensures { result ≡ compression_allowed_of (computed A.model) limit bending service }
 {
     parts::<A>(15, 10).mul(limit).add(bending.mul(service))
 }
@@ -32,7 +32,7 @@ pub(crate) fn buckling_cube<A: Arithmetic>(
     fill: A,
     centroid: A,
 ) -> A
-    ensures { result ≡ buckling_cube_of (computed model) moment effective long soil fill centroid }
+    ensures { result ≡ buckling_cube_of (computed A.model) moment effective long soil fill centroid }
 {
     let wall = moment.div(cube(effective).mul(square(long)));
     let support = parts::<A>(9, 10)
@@ -46,13 +46,13 @@ pub(crate) fn buckling_cube<A: Arithmetic>(
 }
 
 pub(crate) fn flexibility<A: Arithmetic>(centroid: A, short: A, moment: A) -> A
-    ensures { result ≡ flexibility_of (computed model) centroid short moment }
+    ensures { result ≡ flexibility_of (computed A.model) centroid short moment }
 {
     square(centroid).div(short.mul(moment))
 }
 
 pub(crate) fn uplift<A: Arithmetic>(outside: A) -> A
-    ensures { result ≡ uplift_of (computed model) outside }
+    ensures { result ≡ uplift_of (computed A.model) outside }
 {
     let quarter = parts::<A>(3_141_592_654, 1_000_000_000).div(A::whole(4));
     quarter
@@ -62,7 +62,7 @@ pub(crate) fn uplift<A: Arithmetic>(outside: A) -> A
 }
 
 pub(crate) fn hold_down<A: Arithmetic>(prism: A, outside: A) -> A
-    ensures { result ≡ hold_down_of (computed model) prism outside }
+    ensures { result ≡ hold_down_of (computed A.model) prism outside }
 {
     parts::<A>(675, 1_000).mul(prism).mul(outside)
 }

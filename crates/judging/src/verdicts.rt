@@ -87,7 +87,7 @@ impl Figure {
 
 /// Whether the left side is at most the right one.
 pub(crate) fn state<A: Arithmetic>(left: A, right: A) -> State
-    ensures { state_number result ≡ compared model left right }
+    ensures { state_number result ≡ compared A.model left right }
 {
     match left.at_most(right) {
         Comparison::Yes => State::Holds,

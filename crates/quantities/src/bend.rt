@@ -34,9 +34,9 @@ fn stiffness(case: &Case) -> Stiffness
 
 /// The bending factor.
 pub(crate) fn bending<A: Arithmetic>(case: &Case, measures: &Measures<A>, load: A) -> A
-    requires measured { Measured model (design_of case.now) measures.now }
-    requires load { LoadFactor model (design_of case.now) load }
-    ensures { Bending model (design_of case.now) result }
+    requires measured { Measured A.model (design_of case.now) measures.now }
+    requires load { LoadFactor A.model (design_of case.now) load }
+    ensures { Bending A.model (design_of case.now) result }
 {
     let section = case.section;
     let factor = shape_factor(case.shape, stiffness(case));

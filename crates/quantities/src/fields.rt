@@ -10,21 +10,21 @@ use enclosure::{Arithmetic, wide};
 
 /// `n` over `k`.
 pub fn parts<A: Arithmetic>(n: u64, k: u64) -> A
-    ensures { result ≡ parts_of (computed model) n k }
+    ensures { result ≡ parts_of (computed A.model) n k }
 {
     A::whole(n).div(A::whole(k))
 }
 
 /// `n` over `k`, of more than 62 bits.
 pub(crate) fn long_parts<A: Arithmetic>(n: u128, k: u128) -> A
-    ensures { result ≡ long_parts_of (computed model) n k }
+    ensures { result ≡ long_parts_of (computed A.model) n k }
 {
     wide::<A>(n).div(wide(k))
 }
 
 impl<A: Arithmetic> Measures<A> {
     pub(crate) fn of(case: &Case) -> Self
-        ensures { Measured model (design_of case.now) result }
+        ensures { Measured A.model (design_of case.now) result }
     {
         let section = case.section;
         Measures {

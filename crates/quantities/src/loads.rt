@@ -31,8 +31,8 @@ pub(crate) fn prism_units(case: &Case) -> u64
 
 /// The hydrostatic pressure, where there is water.
 pub(crate) fn water<A: Arithmetic>(case: &Case, measures: &Measures<A>) -> Option<A>
-    requires { Measured model (design_of case.now) measures.now }
-    ensures { Water model (design_of case.now) result }
+    requires { Measured A.model (design_of case.now) measures.now }
+    ensures { Water A.model (design_of case.now) result }
 {
     let site = case.site;
     if site.water == 0 {
@@ -46,7 +46,7 @@ pub(crate) fn water<A: Arithmetic>(case: &Case, measures: &Measures<A>) -> Optio
 // Under wheels of this load and this width at the crown, up to 96 inches deep.
 fn under_wheels<A: Arithmetic>(fill: u64, load: u64, depth: A, width: A) -> A
     requires { fill ≤ 96000 }
-    ensures { result ≡ truck_pressure_of (computed model) (parts_of (computed model) (12768000 - 33 * fill) 9600000) (model.from_whole load) (live_length_of (computed model) depth) width }
+    ensures { result ≡ truck_pressure_of (computed A.model) (parts_of (computed A.model) (12768000 - 33 * fill) 9600000) (A.model.from_whole load) (live_length_of (computed A.model) depth) width }
 {
     let impact = parts(12_768_000 - 33 * fill, 9_600_000);
     truck_pressure(impact, A::whole(load), live_length(depth), width)
@@ -54,8 +54,8 @@ fn under_wheels<A: Arithmetic>(fill: u64, load: u64, depth: A, width: A) -> A
 
 /// The live load's pressure, where it counts.
 pub(crate) fn live_pressure<A: Arithmetic>(case: &Case, measures: &Measures<A>) -> Option<A>
-    requires { Measured model (design_of case.now) measures.now }
-    ensures { Live model (design_of case.now) result }
+    requires { Measured A.model (design_of case.now) measures.now }
+    ensures { Live A.model (design_of case.now) result }
 {
     let fill = case.site.fill;
     let deep = fill > 96_000;

@@ -20,7 +20,7 @@ fn is_fully_supported(case: &Case) -> bool
 /// The modulus of the soil, at the prism pressure.
 pub(crate) fn soil_modulus<A: Arithmetic>(case: &Case, prism: u64) -> A
     requires { prism ≡ prism_units (design_of case.now) }
-    ensures { Soil model (design_of case.now) result }
+    ensures { Soil A.model (design_of case.now) result }
 {
     let pressure = Pressure {
         num: prism,

@@ -28,7 +28,7 @@ fn thrust_under<A: Arithmetic>(
     hoop: A,
     pressure: Option<A>,
 ) -> Option<A>
-    ensures { result ≡ maybe (λ p. live_thrust_of (computed model) share (spread_factor_of (computed model) length measures.now.outside measures.now.inside) (hoop_factor_of (computed model) hoop) p measures.now.outside) pressure }
+    ensures { result ≡ maybe (λ p. live_thrust_of (computed A.model) share (spread_factor_of (computed A.model) length measures.now.outside measures.now.inside) (hoop_factor_of (computed A.model) hoop) p measures.now.outside) pressure }
 {
     match pressure {
         Some(pressure) => {
@@ -41,9 +41,9 @@ fn thrust_under<A: Arithmetic>(
 
 impl<A: Arithmetic> Live<A> {
     fn of(case: &Case, measures: &Measures<A>, hoop: A) -> Self
-        requires measured { Measured model (design_of case.now) measures.now }
-        requires hoop { Hoop model (design_of case.now) hoop }
-        ensures { LiveKnown model (design_of case.now) result }
+        requires measured { Measured A.model (design_of case.now) measures.now }
+        requires hoop { Hoop A.model (design_of case.now) hoop }
+        ensures { LiveKnown A.model (design_of case.now) result }
     {
         let length = live_length(measures.fill);
         let share = length_share(length, measures.outside);
@@ -58,7 +58,7 @@ impl<A: Arithmetic> Live<A> {
 }
 
 fn factored_part<A: Arithmetic>(thrust: Option<A>, modulus: A) -> Option<A>
-    ensures { result ≡ maybe (λ t. live_part_of (computed model) t modulus) thrust }
+    ensures { result ≡ maybe (λ t. live_part_of (computed A.model) t modulus) thrust }
 {
     match thrust {
         Some(thrust) => Some(live_part(thrust, modulus)),
@@ -67,7 +67,7 @@ fn factored_part<A: Arithmetic>(thrust: Option<A>, modulus: A) -> Option<A>
 }
 
 fn plain_part<A: Arithmetic>(thrust: Option<A>, modulus: A) -> Option<A>
-    ensures { result ≡ maybe (λ t. model.quotient t modulus) thrust }
+    ensures { result ≡ maybe (λ t. A.model.quotient t modulus) thrust }
 {
     match thrust {
         Some(thrust) => Some(thrust.div(modulus)),
@@ -76,13 +76,13 @@ fn plain_part<A: Arithmetic>(thrust: Option<A>, modulus: A) -> Option<A>
 }
 
 fn design_thrust<A: Arithmetic>(load: A, arching: A, prism: A, water: Option<A>, outside: A) -> A
-    ensures { result ≡ factored_thrust_of (computed model) (plus_of (computed model) (model.product (model.product load arching) prism) water) outside }
+    ensures { result ≡ factored_thrust_of (computed A.model) (plus_of (computed A.model) (A.model.product (A.model.product load arching) prism) water) outside }
 {
     factored_thrust(plus(load.mul(arching).mul(prism), water), outside)
 }
 
 fn least_thrust<A: Arithmetic>(arching: A, prism: A, water: Option<A>, outside: A) -> A
-    ensures { result ≡ thrust_of (computed model) (plus_of (computed model) (model.product (model.product (parts_of (computed model) 54 100) arching) prism) water) outside }
+    ensures { result ≡ thrust_of (computed A.model) (plus_of (computed A.model) (A.model.product (A.model.product (parts_of (computed A.model) 54 100) arching) prism) water) outside }
 {
     thrust(
         plus(parts::<A>(54, 100).mul(arching).mul(prism), water),
@@ -91,19 +91,19 @@ fn least_thrust<A: Arithmetic>(arching: A, prism: A, water: Option<A>, outside: 
 }
 
 fn service_thrust<A: Arithmetic>(arching: A, prism: A, water: Option<A>, outside: A) -> A
-    ensures { result ≡ thrust_of (computed model) (plus_of (computed model) (model.product arching prism) water) outside }
+    ensures { result ≡ thrust_of (computed A.model) (plus_of (computed A.model) (A.model.product arching prism) water) outside }
 {
     thrust(plus(arching.mul(prism), water), outside)
 }
 
 fn strain<A: Arithmetic>(thrust: A, modulus: A, live: Option<A>, area: A) -> A
-    ensures { result ≡ model.quotient (plus_of (computed model) (model.quotient thrust modulus) live) area }
+    ensures { result ≡ A.model.quotient (plus_of (computed A.model) (A.model.quotient thrust modulus) live) area }
 {
     plus(thrust.div(modulus), live).div(area)
 }
 
 fn flattening<A: Arithmetic>(share: A, pressure: Option<A>, outside: A, resistance: A) -> Option<A>
-    ensures { result ≡ maybe (λ p. live_deflection_of (computed model) share p outside resistance) pressure }
+    ensures { result ≡ maybe (λ p. live_deflection_of (computed A.model) share p outside resistance) pressure }
 {
     match pressure {
         Some(pressure) => Some(live_deflection(share, pressure, outside, resistance)),
@@ -118,11 +118,11 @@ fn deflection<A: Arithmetic>(
     live: Live<A>,
     service: A,
 ) -> A
-    ensures { result ≡ model.sum
-        (plus_of (computed model)
-        (soil_deflection_of (computed model) prism measures.now.outside (resistance_of (computed model) measures.now.long_modulus measures.now.moment measures.now.centroid soil))
-        (maybe (λ p. live_deflection_of (computed model) live.share p measures.now.outside (resistance_of (computed model) measures.now.short_modulus measures.now.moment measures.now.centroid soil)) live.pressure))
-        (model.product measures.now.centroid service) }
+    ensures { result ≡ A.model.sum
+        (plus_of (computed A.model)
+        (soil_deflection_of (computed A.model) prism measures.now.outside (resistance_of (computed A.model) measures.now.long_modulus measures.now.moment measures.now.centroid soil))
+        (maybe (λ p. live_deflection_of (computed A.model) live.share p measures.now.outside (resistance_of (computed A.model) measures.now.short_modulus measures.now.moment measures.now.centroid soil)) live.pressure))
+        (A.model.product measures.now.centroid service) }
 {
     let long = resistance(
         measures.long_modulus,
@@ -144,15 +144,15 @@ fn deflection<A: Arithmetic>(
 impl<A: Arithmetic> Worked<A> {
     /// The quantities of a case.
     pub fn of(case: &Case) -> Self
-        ensures { WorkedKnown model (design_of case.now) result }
+        ensures { WorkedKnown A.model (design_of case.now) result }
     {
         let measures = Measures::of(case);
         Worked::from(case, &measures)
     }
 
     fn from(case: &Case, measures: &Measures<A>) -> Self
-        requires { Measured model (design_of case.now) measures.now }
-        ensures { WorkedKnown model (design_of case.now) result }
+        requires { Measured A.model (design_of case.now) measures.now }
+        ensures { WorkedKnown A.model (design_of case.now) result }
     {
         let outside = measures.outside;
         let long = measures.long_modulus;

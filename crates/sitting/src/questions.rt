@@ -45,7 +45,7 @@ impl Sitting {
     /// The sheet of the case at these places.
     pub fn judge<A: Arithmetic>(&self, case: CasePlaces) -> Result<Sheet, Fault>
         ensures answer { refused result ≡ case_refusal (held self.now) case }
-        ensures sheet { IfOk result (λ s. SheetOf model (held self.now) case s) }
+        ensures sheet { IfOk result (λ s. SheetOf A.model (held self.now) case s) }
     {
         check_places(case)?;
         let case = gather(&self.book, case)?;
@@ -75,7 +75,7 @@ impl Sitting {
         claims: &mut [Claim],
     ) -> Result<(), Fault>
         ensures answer { refused result ≡ marking_refusal (held self.old) self.old.tallies case claims.old }
-        ensures marks { OnOk result (ClaimsOf model (held self.old) case claims.old claims.new) }
+        ensures marks { OnOk result (ClaimsOf A.model (held self.old) case claims.old claims.new) }
         ensures after { MatchResult result
             (λ _. (self.new.book ≡ self.old.book) × (self.new.tallies ≡ counted self.old.tallies claims.new))
             (λ _. (self.new ≡ self.old) × (claims.new ≡ claims.old)) }
