@@ -32,7 +32,7 @@ pub returns : goal.returns
 returns c =
     let r = c.args.rules in
     let ns = c.args.fields.now in
-    let e = kept r ns c.if-not-curve-complete.ensures c.in-ok-in-ranges.ensures c.in-ok-in-ranges-2.ensures
+    let e = kept r ns c.if-not-curve_complete.ensures c.in_ok-in_ranges.ensures c.in_ok-in_ranges-2.ensures
     (c.if-not-holds-along.ensures ∙ ap (chained r.trend) (c.in-use.ensures ∙ c.of-points.ensures))
     (c.if-not-holds-along-2.ensures ∙ ap (chained Gentle) (c.in-use-2.ensures ∙ c.of-points.ensures)) in
     rw c.of-points.ensures (record { value = e; lawful = line_lawful r _ ns e })

@@ -13,7 +13,7 @@ returns-then-not-holds-along c =
 pub loop-i-preserved : goal.loop-i-preserved
 loop-i-preserved c =
     let P : ℕ → Bool = λ k. chained c.args.rule (column (length c.args.widths.now) k c.args.ratios.now c.args.factors.now) in
-    every_more P c.loop-i.i c.loop-i.invariant (column_test c.args.rule (length c.args.ratios.now) c.column-at-points.result _ _ c.if-not-holds-along.ensures c.column-at-points.ensures)
+    every_more P c.loop-i.i c.loop-i.invariant (column_test c.args.rule (length c.args.ratios.now) c.column_at-points.result _ _ c.if-not-holds_along.ensures c.column_at-points.ensures)
 
 pub returns : goal.returns
 returns c =

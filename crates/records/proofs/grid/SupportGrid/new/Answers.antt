@@ -11,8 +11,8 @@ returns-in-err-check-lists c =
 pub held-requires-3 : goal.held-requires-3
 held-requires-3 c =
     let ns = c.args.fields.now in
-    let complete = c.if-not-grid-complete.ensures in
-    let k = few ns complete c.in-ok-check-lists.ensures in
+    let complete = c.if-not-grid_complete.ensures in
+    let k = few ns complete c.in_ok-check_lists.ensures in
     (lit< tt, few_factors _ _ _ k.0 k.1 (factors_length ns complete))
 
 pub invariant-of-result : goal.invariant-of-result
@@ -25,4 +25,4 @@ invariant-of-result c =
 
 pub returns : goal.returns
 returns c =
-    held_line c.args.fields.now c.if-not-grid-complete.ensures c.in-ok-check-lists.ensures _ _ _ c.held.ensures c.held-2.ensures c.held-3.ensures
+    held_line c.args.fields.now c.if-not-grid_complete.ensures c.in_ok-check_lists.ensures _ _ _ c.held.ensures c.held-2.ensures c.held-3.ensures

@@ -8,4 +8,4 @@ invariant-of-result c =
     ((k.inside, o.0, o.1, k.outside), ((k.effective, o.2, k.gross), (k.moment, ((k.long, o.3, k.short), ((k.compression.0, k.compression.1, k.tension.0, k.tension.1), (k.stiffness, tt))))))
 
 pub returns : goal.returns
-returns c = section_made c.args.fields.now c.in-ok-check-section.ensures
+returns c = section_made c.args.fields.now c.in_ok-check_section.ensures

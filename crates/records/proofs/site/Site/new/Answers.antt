@@ -7,4 +7,4 @@ invariant-of-result c =
     (k.fill, (k.trench, (k.water, ((k.moist.0, k.moist.1, k.saturated.0, k.saturated.1), (k.factor, (k.installation, (k.native, tt)))))))
 
 pub returns : goal.returns
-returns c = site_made c.args.fields.now c.in-ok-check-site.ensures _ c.of.ensures
+returns c = site_made c.args.fields.now c.in_ok-check_site.ensures _ c.of.ensures
