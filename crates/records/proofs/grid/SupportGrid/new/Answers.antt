@@ -3,10 +3,10 @@ use Rattle.std.proofs.lemmas.Result.{err_from_is_err_and}
 use Rattle.records.proofs.GridLines.{few_factors, factors_length, few, lists_refused, held_full, held_lawful, held_line}
 use Rattle.records.proofs.grid.SupportGrid.new.Goals as goal
 
-pub returns-in-err-check-lists : goal.returns-in-err-check-lists
-returns-in-err-check-lists c =
-    let p = err_from_is_err_and c.from-residual.result c.from-residual.ensures.1 in
-    rw (p.1, p.2) (lists_refused c.args.fields.now c.if-not-grid-complete.ensures _ c.in-err-check-lists.ensures)
+pub returns-in_err-check_lists : goal.returns-in_err-check_lists
+returns-in_err-check_lists c =
+    let p = err_from_is_err_and c.from_residual.result c.from_residual.ensures.1 in
+    rw (p.1, p.2) (lists_refused c.args.fields.now c.if-not-grid_complete.ensures _ c.in_err-check_lists.ensures)
 
 pub held-requires-3 : goal.held-requires-3
 held-requires-3 c =
@@ -15,11 +15,11 @@ held-requires-3 c =
     let k = few ns complete c.in_ok-check_lists.ensures in
     (lit< tt, few_factors _ _ _ k.0 k.1 (factors_length ns complete))
 
-pub invariant-of-result : goal.invariant-of-result
-invariant-of-result c =
+pub invariant_of-result : goal.invariant_of-result
+invariant_of-result c =
     let ns = c.args.fields.now in
-    let complete = c.if-not-grid-complete.ensures in
-    let found = c.in-ok-check-lists.ensures in
+    let complete = c.if-not-grid_complete.ensures in
+    let found = c.in_ok-check_lists.ensures in
     let k = few ns complete found in
     (k.0, (k.1, (held_full ns complete found _ _ _ c.held.ensures c.held-2.ensures c.held-3.ensures, (held_lawful ns complete found _ _ _ c.held.ensures c.held-2.ensures c.held-3.ensures, tt))))
 

@@ -1,9 +1,9 @@
 use Rattle.records.proofs.Sections.{section_kept, section_made}
 use Rattle.records.proofs.section.Section.new.Goals as goal
 
-pub invariant-of-result : goal.invariant-of-result
-invariant-of-result c =
-    let k = section_kept c.args.fields.now c.in-ok-check-section.ensures in
+pub invariant_of-result : goal.invariant_of-result
+invariant_of-result c =
+    let k = section_kept c.args.fields.now c.in_ok-check_section.ensures in
     let o = k.order in
     ((k.inside, o.0, o.1, k.outside), ((k.effective, o.2, k.gross), (k.moment, ((k.long, o.3, k.short), ((k.compression.0, k.compression.1, k.tension.0, k.tension.1), (k.stiffness, tt))))))
 

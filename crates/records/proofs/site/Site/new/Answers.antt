@@ -1,9 +1,9 @@
 use Rattle.records.proofs.Sites.{site_kept, site_made}
 use Rattle.records.proofs.site.Site.new.Goals as goal
 
-pub invariant-of-result : goal.invariant-of-result
-invariant-of-result c =
-    let k = site_kept c.args.fields.now c.in-ok-check-site.ensures in
+pub invariant_of-result : goal.invariant_of-result
+invariant_of-result c =
+    let k = site_kept c.args.fields.now c.in_ok-check_site.ensures in
     (k.fill, (k.trench, (k.water, ((k.moist.0, k.moist.1, k.saturated.0, k.saturated.1), (k.factor, (k.installation, (k.native, tt)))))))
 
 pub returns : goal.returns
