@@ -21,7 +21,12 @@ invariant_of-result c =
     let complete = c.if-not-grid_complete.ensures in
     let found = c.in_ok-check_lists.ensures in
     let k = few ns complete found in
-    (k.0, (k.1, (held_full ns complete found _ _ _ c.held.ensures c.held-2.ensures c.held-3.ensures, (held_lawful ns complete found _ _ _ c.held.ensures c.held-2.ensures c.held-3.ensures, tt))))
+    record {
+      narrow = k.0;
+      shallow = k.1;
+      full = held_full ns complete found _ _ _ c.held.ensures c.held-2.ensures c.held-3.ensures;
+      lawful = held_lawful ns complete found _ _ _ c.held.ensures c.held-2.ensures c.held-3.ensures;
+    }
 
 pub returns : goal.returns
 returns c =

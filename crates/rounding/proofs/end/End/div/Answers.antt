@@ -25,8 +25,8 @@ scaled-requires g c =
     let q = quotient_low a b (omega (arith, c.if-self-eq0.false)) c.if-top-bottom.true in
     let least = cut_least t _ b.digits g.row.FULL some q.0 in
     let most = cut_most t _ b.digits (g.row.FULL * g.row.BASE) some (le_of_lt q.1) in
-    let full : g.row.FULL ≤ c.cut-off.result = omega (arith, c.cut-off.ensures) in
-    let few : c.cut-off.result ≤ g.row.FULL * g.row.BASE = omega (arith, c.cut-off.ensures, least) in
+    let full : g.row.FULL ≤ c.cut_off.result = omega (arith, c.cut_off.ensures) in
+    let few : c.cut_off.result ≤ g.row.FULL * g.row.BASE = omega (arith, c.cut_off.ensures, least) in
     search rules
 
 pub returns-then-top-bottom : goal.returns-then-top-bottom
@@ -36,9 +36,9 @@ returns-then-top-bottom g c =
     let t = c.args.toward in
     let some : 0 < b.digits = omega (arith, c.if-other-eq0.false) in
     let q = quotient_low a b (omega (arith, c.if-self-eq0.false)) c.if-top-bottom.true in
-    let s = quotient_scales a.radix t a.digits b.digits a.exponent b.exponent (g.row.PLACES + 1) (g.row.FULL * g.row.BASE) _ (power_next a.radix) some c.cut-off.ensures q.0 q.1 in
+    let s = quotient_scales a.radix t a.digits b.digits a.exponent b.exponent (g.row.PLACES + 1) (g.row.FULL * g.row.BASE) _ (power_next a.radix) some c.cut_off.ensures q.0 q.1 in
     c.scaled.ensures a.radix _ _ _ _
-    (subst (λ (x : ℕ). Scales g.row.BASE g.row.FULL t (a.digits * g.row.BASE ^ a.exponent * g.row.BASE ^ g.row.BIAS) (b.digits * g.row.BASE ^ b.exponent) (a.digits * (g.row.FULL * g.row.BASE)) b.digits c.cut-off.result (a.exponent + g.row.BIAS) x) (sym (add_assoc b.exponent g.row.PLACES 1)) s)
+    (subst (λ (x : ℕ). Scales g.row.BASE g.row.FULL t (a.digits * g.row.BASE ^ a.exponent * g.row.BASE ^ g.row.BIAS) (b.digits * g.row.BASE ^ b.exponent) (a.digits * (g.row.FULL * g.row.BASE)) b.digits c.cut_off.result (a.exponent + g.row.BIAS) x) (sym (add_assoc b.exponent g.row.PLACES 1)) s)
     ∙ sym (divided_by a b t some)
 
 pub scaled-requires-2 : goal.scaled-requires-2
@@ -50,8 +50,8 @@ scaled-requires-2 g c =
     let q = quotient_high a b some c.if-top-bottom.false in
     let least = cut_least t _ b.digits g.row.FULL some q.0 in
     let most = cut_most t _ b.digits (g.row.FULL * g.row.BASE) some (le_of_lt q.1) in
-    let full : g.row.FULL ≤ c.cut-off-2.result = omega (arith, c.cut-off-2.ensures) in
-    let few : c.cut-off-2.result ≤ g.row.FULL * g.row.BASE = omega (arith, c.cut-off-2.ensures, least) in
+    let full : g.row.FULL ≤ c.cut_off-2.result = omega (arith, c.cut_off-2.ensures) in
+    let few : c.cut_off-2.result ≤ g.row.FULL * g.row.BASE = omega (arith, c.cut_off-2.ensures, least) in
     search rules
 
 pub returns : goal.returns
@@ -62,5 +62,5 @@ returns g c =
     let some : 0 < b.digits = omega (arith, c.if-other-eq0.false) in
     let q = quotient_high a b some c.if-top-bottom.false in
     c.scaled-2.ensures a.radix _ _ _ _
-    (quotient_scales a.radix t a.digits b.digits a.exponent b.exponent g.row.PLACES g.row.FULL _ a.radix.0.2 some c.cut-off-2.ensures q.0 q.1)
+    (quotient_scales a.radix t a.digits b.digits a.exponent b.exponent g.row.PLACES g.row.FULL _ a.radix.0.2 some c.cut_off-2.ensures q.0 q.1)
     ∙ sym (divided_by a b t some)

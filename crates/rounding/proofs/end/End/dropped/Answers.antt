@@ -5,10 +5,10 @@ use Rattle.rounding.proofs.Drops.{powers, base_power, cut_all, cut_none}
 use Rattle.rounding.proofs.end.End.dropped.Goals as goal
 
 pub returns-then-k-ge32 : goal.returns-then-k-ge32
-returns-then-k-ge32 g c = c.cut-off.ensures ∙ cut_all c.requires.radix c.args.toward c.args.n c.args.k c.requires.few c.if-k-ge32.true
+returns-then-k-ge32 g c = c.cut_off.ensures ∙ cut_all c.requires.radix c.args.toward c.args.n c.args.k c.requires.few c.if-k-ge32.true
 
-pub overflow-mul-b16 : goal.overflow-mul-b16
-overflow-mul-b16 g c = let p = powers c.requires.radix in omega (arith, p.sixteen_fits)
+pub overflow_mul-b16 : goal.overflow_mul-b16
+overflow_mul-b16 g c = let p = powers c.requires.radix in omega (arith, p.sixteen_fits)
 
 pub stage-n-requires : goal.stage-n-requires
 stage-n-requires g c = let p = powers c.requires.radix in let room = p.sixteen_fits in search rules

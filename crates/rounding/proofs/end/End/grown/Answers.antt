@@ -13,8 +13,8 @@ returns-then-m g c =
     let z = c.requires.radix in
     grown_past z c.args.n c.loop.counter c.args.k c.loop.m c.loop.invariant.0 c.loop-test.true (past_limit c.loop.m g.row.BASE (base_pos z) c.if-m.true)
 
-pub overflow-mul-m : goal.overflow-mul-m
-overflow-mul-m g c = let h = under_limit c.loop.m g.row.BASE (base_pos c.requires.radix) c.if-m.false in omega arith
+pub overflow_mul-m : goal.overflow_mul-m
+overflow_mul-m g c = let h = under_limit c.loop.m g.row.BASE (base_pos c.requires.radix) c.if-m.false in omega arith
 
 pub loop-preserved : goal.loop-preserved
 loop-preserved g c =

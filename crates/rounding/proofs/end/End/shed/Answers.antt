@@ -14,7 +14,7 @@ pub loop-m-smaller : goal.loop-m-smaller
 loop-m-smaller g c =
     let z = c.requires.radix in
     let h = cut_shrinks z c.args.toward c.loop-m.m (omega arith) in
-    omega (arith, c.cut-off-m.ensures)
+    omega (arith, c.cut_off-m.ensures)
 
 pub loop-m-preserved : goal.loop-m-preserved
 loop-m-preserved g c =
@@ -22,7 +22,7 @@ loop-m-preserved g c =
     let t = c.args.toward in
     let h = cut_shrinks z t c.loop-m.m (omega arith) in
     let l = cut_least t c.loop-m.m g.row.BASE g.row.FULL (base_pos z) c.loop-m-test.true in
-    let e = c.cut-off-m.ensures in (
+    let e = c.cut_off-m.ensures in (
       e ∙ cut_next z t c.args.n c.loop-m.k c.loop-m.m c.loop-m.invariant.0,
       omega arith,
       omega arith,

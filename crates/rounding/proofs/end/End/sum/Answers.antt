@@ -5,8 +5,8 @@ use Rattle.rounding.proofs.Rounds.{rounded_none}
 use Rattle.rounding.proofs.Sums.{sum_full, sum_none, sum_stands, rest_few}
 use Rattle.rounding.proofs.end.End.sum.Goals as goal
 
-pub overflow-add-m : goal.overflow-add-m
-overflow-add-m g c =
+pub overflow_add-m : goal.overflow_add-m
+overflow_add-m g c =
     let a = c.args.large in
     let b = c.args.small in
     let r = rest_few a b c.args.toward (a.exponent - b.exponent) in

@@ -9,7 +9,7 @@ returns-then-n-eq0 g c z =
     let t = c.args.toward in
     ap Some (c.zero.ensures z)
     ∙ sym (rounded_none z _ 1 (omega arith) t (ap (λ x. x * g.row.BASE ^ g.row.BIAS) c.if-n-eq0.true ∙ zero-mul (g.row.BASE ^ g.row.BIAS)))
-    ∙ sym (whole_within z t c.args.n c.if-n-gt-WHOLE-MOST.false)
+    ∙ sym (whole_within z t c.args.n c.if-n-gt-WHOLE_MOST.false)
 
 pub exact-requires : goal.exact-requires
 exact-requires g c =
@@ -25,4 +25,4 @@ returns g c z =
     let t = c.args.toward in
     c.at.ensures z t (c.args.n * g.row.BASE ^ g.row.BIAS) 1
     (whole_stands z t c.args.n _ _ c.if-n.false c.shed-m.ensures.is c.shed-m.ensures.fills)
-    ∙ sym (whole_within z t c.args.n c.if-n-gt-WHOLE-MOST.false)
+    ∙ sym (whole_within z t c.args.n c.if-n-gt-WHOLE_MOST.false)

@@ -3,8 +3,9 @@ use Rattle.rounding.specs.Rounded.{wider}
 use Rattle.rounding.proofs.Ends.{is_zero}
 use Rattle.rounding.proofs.end.End.zero.Goals as goal
 
-pub invariant-of-result : goal.invariant-of-result
-invariant-of-result g c = (omega (arith, wider c.requires), (omega arith, ((λ h. absurd (omega arith)), ((λ h. h), (c.requires, tt)))))
+pub invariant_of-result : goal.invariant_of-result
+invariant_of-result g c =
+    record { few = omega (arith, wider c.requires); low = omega arith; full = λ h. absurd (omega arith); zero = λ h. h; radix = c.requires }
 
 pub returns : goal.returns
 returns g c z = is_zero z _ refl
