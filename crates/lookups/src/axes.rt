@@ -34,10 +34,10 @@ impl Placed for Point {
 pub fn cell_of<P: Placed>(points: &[P], at: Ratio) -> Cell
     requires some { 1 ≤ length points.now }
     requires at { at.den < 2 ^ 64 }
-    ensures value { Finds (map spot points.now) (value at) result }
+    ensures value { Finds (map P.spot points.now) (value at) result }
     ensures first { result.first < length points.now }
     ensures second { result.second < length points.now }
-    ensures small { result.after + result.before ≤ max 1 (get_or (map spot points.now) result.second 0 * at.den) }
+    ensures small { result.after + result.before ≤ max 1 (get_or (map P.spot points.now) result.second 0 * at.den) }
 {
     let mut low = points[0].place() as u128 * at.den;
     if at.num <= low {

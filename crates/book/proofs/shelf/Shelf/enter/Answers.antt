@@ -5,8 +5,8 @@ use Rattle.book.proofs.shelf.Shelf.enter.Goals as goal
 pub returns : goal.returns
 returns g c =
     let line = g.T.Record.line in
-    let made = made_of (g.T.Record.refusal c.args.fields.now) (line c.in-ok-record.record) c.args.fields.now c.in-ok-record.ensures in
-    let counted = c.in-ok-check-place.ensures in
+    let made = made_of (g.T.Record.refusal c.args.fields.now) (line c.in_ok-record.record) c.args.fields.now c.in_ok-record.ensures in
+    let counted = c.in_ok-check_place.ensures in
     record {
       answer = neither _ _ counted made.0;
       held = lines_set line c.args.self.now.places c.put.new.self.places _ _ _ c.put.ensures.written (ap Some made.1);

@@ -9,5 +9,5 @@ use Rattle.digits.proofs.span.Enclosure.ends_below.Goals as goal
 pub returns : goal.returns
 returns g c =
     let l = c.args.lower in
-    ap not c.at-most.ensures ∙ sym (ltb_scaled (units c.in-Some.end) (units l) _ (power_pos l.radix g.row.BIAS))
+    ap not c.at_most.ensures ∙ sym (ltb_scaled (units c.in-Some.end) (units l) _ (power_pos l.radix g.row.BIAS))
     ∙ ap (λ h. ends_below (bound h) (value l)) (sym c.in-Some.is)

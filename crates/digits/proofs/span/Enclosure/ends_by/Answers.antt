@@ -9,5 +9,5 @@ use Rattle.digits.proofs.span.Enclosure.ends_by.Goals as goal
 pub returns : goal.returns
 returns g c =
     let l = c.args.lower in
-    c.at-most.ensures ∙ sym (leb_scaled (units c.in-Some.end) (units l) _ (power_pos l.radix g.row.BIAS))
+    c.at_most.ensures ∙ sym (leb_scaled (units c.in-Some.end) (units l) _ (power_pos l.radix g.row.BIAS))
     ∙ ap (λ h. ends_by (bound h) (value l)) (sym c.in-Some.is)
