@@ -135,6 +135,7 @@ fn print_figure(
 
 /// Why the program stops early.
 #[derive(Drop)]
+#[derive(Debug, Drop)]
 enum Stop {
     Refused(Fault),
     Output(io::Error),

@@ -9,11 +9,11 @@ use Rattle.quantities.proofs.bend.bending.Goals as goal
 pub returns : goal.returns
 returns g c =
     let d = design_of c.args.case.now in
-    let f = c.shape-factor-factor.result in
-    let e = c.shape-factor-factor.ensures in
+    let f = c.shape_factor-factor.result in
+    let e = c.shape_factor-factor.ensures in
     let t = c.stiffness.ensures in
-    bending_steps d g.met.A.Arithmetic.sound c.args.measures.now f c.args.load c.long-parts-shape.result c.parts-face.result c.bending_factor.result c.requires.measured c.requires.load e.least e.most (omega (arith, e.fits, t.fits))
+    bending_steps d g.met.A.Arithmetic.sound c.args.measures.now f c.args.load c.long_parts-shape.result c.parts-face.result c.bending_factor.result c.requires.measured c.requires.load e.least e.most (omega (arith, e.fits, t.fits))
     (shape_same d f (stiffness_of c.stiffness.result) t.value e.value)
-    c.long-parts-shape.ensures
+    c.long_parts-shape.ensures
     (c.parts-face.ensures ∙ ap (λ n. parts_of (computed g.A.Arithmetic.model) n 1000) c.max.ensures)
     c.bending_factor.ensures

@@ -6,14 +6,14 @@ use Rattle.quantities.proofs.bend.stiffness.Goals as goal
 pub returns-then-section-ne0 : goal.returns-then-section-ne0
 returns-then-section-ne0 c = record { value = given_same (design_of c.args.case.now) _ c.if-section-ne0.true; fits = lit≤ tt }
 
-pub overflow-mul-result-4 : goal.overflow-mul-result-4
-overflow-mul-result-4 c = let p = c.args.case.now.section in omega (arith, cube_fits p.centroid (omega (arith, p.diameters)))
+pub overflow_mul-result-4 : goal.overflow_mul-result-4
+overflow_mul-result-4 c = let p = c.args.case.now.section in omega (arith, cube_fits p.centroid (omega (arith, p.diameters)))
 
-pub overflow-mul-result-5 : goal.overflow-mul-result-5
-overflow-mul-result-5 c = let p = c.args.case.now.section in omega (arith, cube_fits p.centroid (omega (arith, p.diameters)))
+pub overflow_mul-result-5 : goal.overflow_mul-result-5
+overflow_mul-result-5 c = let p = c.args.case.now.section in omega (arith, cube_fits p.centroid (omega (arith, p.diameters)))
 
-pub invariant-of-result-2 : goal.invariant-of-result-2
-invariant-of-result-2 c = let p = c.args.case.now.section in (cube_positive p.centroid (omega (arith, p.diameters)), tt)
+pub invariant_of-result-2 : goal.invariant_of-result-2
+invariant_of-result-2 c = let p = c.args.case.now.section in record { positive = cube_positive p.centroid (omega (arith, p.diameters)) }
 
 pub returns : goal.returns
 returns c =

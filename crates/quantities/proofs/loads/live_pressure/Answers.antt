@@ -11,8 +11,8 @@ returns-in-Truck g c = too_deep g.met.A.Arithmetic.sound (design_of c.args.case.
 
 pub returns-in-Truck-2 : goal.returns-in-Truck-2
 returns-in-Truck-2 g c =
-    paired_steps g.met.A.Arithmetic.sound (design_of c.args.case.now) c.wheel_width.result c.whole.result c.add-width.result c.under-wheels.result c.wheel_width.ensures c.whole.ensures c.add-width.ensures c.under-wheels.ensures c.requires.fill c.requires.inside c.in-Truck.is (omega arith) (omega arith)
+    paired_steps g.met.A.Arithmetic.sound (design_of c.args.case.now) c.wheel_width.result c.whole.result c.add-width.result c.under_wheels.result c.wheel_width.ensures c.whole.ensures c.add-width.ensures c.under_wheels.ensures c.requires.fill c.requires.inside c.in-Truck.is (omega arith) (omega arith)
 
 pub returns-in-Truck-3 : goal.returns-in-Truck-3
 returns-in-Truck-3 g c =
-    single_steps g.met.A.Arithmetic.sound (design_of c.args.case.now) c.wheel-width-width.result c.under-wheels-in-Truck-3.result c.wheel-width-width.ensures c.under-wheels-in-Truck-3.ensures c.requires.fill c.requires.inside c.in-Truck.is (omega arith) (omega arith)
+    single_steps g.met.A.Arithmetic.sound (design_of c.args.case.now) c.wheel_width-width.result c.under_wheels-in-Truck-3.result c.wheel_width-width.ensures c.under_wheels-in-Truck-3.ensures c.requires.fill c.requires.inside c.in-Truck.is (omega arith) (omega arith)

@@ -14,8 +14,8 @@ returns-then-site-section c =
       most = dry_most t.fill o t.moist_weight (omega (arith, t.fills)) (omega (arith, d.section.diameters)) (omega (arith, t.weights));
     }
 
-pub overflow-add-result-3 : goal.overflow-add-result-3
-overflow-add-result-3 c =
+pub overflow_add-result-3 : goal.overflow_add-result-3
+overflow_add-result-3 c =
     let d = design_of c.args.case.now in
     let t = d.site in
     let o = d.section.outside in
