@@ -8,4 +8,4 @@ returns-then-case-eq0 g c = not_asked (design_of c.args.case.now) _ c.if-case-eq
 pub returns : goal.returns
 returns g c =
     asked (design_of c.args.case.now) _ c.state.result c.if-case-eq0.false
-    (buoyancy_side g.met.A.Arithmetic.sound (design_of c.args.case.now) c.args.worked.now c.requires c.state.result c.uplift-lift.result c.hold-down-held.result c.uplift-lift.ensures c.hold-down-held.ensures c.state.ensures)
+    (buoyancy_side g.met.A.Arithmetic.sound (design_of c.args.case.now) c.args.worked.now c.requires c.state.result c.uplift-lift.result c.hold_down-held.result c.uplift-lift.ensures c.hold_down-held.ensures c.state.ensures)

@@ -9,7 +9,7 @@ returns g c =
     let j : SheetJudged g.A.Arithmetic.model d _ =
     record {
       thrust = c.thrust-thrust.ensures;
-      net_tension = c.net-tension-net-tension.ensures;
+      net_tension = c.net_tension-net_tension.ensures;
       combined = c.combined-combined.ensures;
       deflection = c.deflection-deflection.ensures;
       buckling = c.buckling-buckling.ensures;

@@ -2,12 +2,12 @@ use Rattle.std.proofs.Common.{sym, ◌∙◌}
 use Rattle.judging.proofs.ReadingOut.{floor_read, ceiling_read, read_out}
 use Rattle.judging.proofs.marking.figure.Goals as goal
 
-pub returns-in-default : goal.returns-in-default
-returns-in-default g c = absurd (c.in-default.not-Some _ (c.floor.ensures ∙ floor_read g.met.A.Arithmetic.sound c.millionths-value.ensures))
+pub returns-in_default : goal.returns-in_default
+returns-in_default g c = absurd (c.in_default.not-Some _ (c.floor.ensures ∙ floor_read g.met.A.Arithmetic.sound c.millionths-value.ensures))
 
-pub returns-in-default-ceiling : goal.returns-in-default-ceiling
-returns-in-default-ceiling g c =
-    absurd (c.in-default-ceiling.not-Some _ (c.ceiling.ensures ∙ ceiling_read g.met.A.Arithmetic.sound c.millionths-value.ensures))
+pub returns-in_default-ceiling : goal.returns-in_default-ceiling
+returns-in_default-ceiling g c =
+    absurd (c.in_default-ceiling.not-Some _ (c.ceiling.ensures ∙ ceiling_read g.met.A.Arithmetic.sound c.millionths-value.ensures))
 
 pub returns : goal.returns
 returns g c =

@@ -6,7 +6,7 @@ use Rattle.judging.proofs.marking.mark_all.Goals as goal
 pub loop-claim-preserved : goal.loop-claim-preserved
 loop-claim-preserved g c =
     let within : c.loop-claim.claim-index < length c.loop-claim.claims = omega arith in
-    one_more g.A.Arithmetic.model (design_of c.args.case.now) _ _ _ _ _ within c.loop-claim.auto.claims c.loop-claim.invariant c.mark-one.ensures
+    one_more g.A.Arithmetic.model (design_of c.args.case.now) _ _ _ _ _ within c.loop-claim.auto.claims c.loop-claim.invariant c.mark_one.ensures
 
 pub returns : goal.returns
 returns g c =
