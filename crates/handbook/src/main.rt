@@ -134,7 +134,6 @@ fn print_figure(
 }
 
 /// Why the program stops early.
-#[derive(Drop)]
 #[derive(Debug, Drop)]
 enum Stop {
     Refused(Fault),

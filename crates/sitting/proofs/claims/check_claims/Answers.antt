@@ -2,16 +2,16 @@ use Rattle.std.proofs.Common.{◌<◌, ◌≤◌, length, arith, rules}
 use Rattle.sitting.proofs.Counting.{refused_here, passed_here, all_passed}
 use Rattle.sitting.proofs.claims.check_claims.Goals as goal
 
-pub returns-in-err-check-claim : goal.returns-in-err-check-claim
-returns-in-err-check-claim c =
+pub returns-in_err-check_claim : goal.returns-in_err-check_claim
+returns-in_err-check_claim c =
     let h : c.loop-i.i < length c.args.claims.now = omega arith in
-    let r = refused_here c.args.claims.now c.loop-i.i _ _ h c.loop-i.invariant c.in-err-check-claim.ensures in
+    let r = refused_here c.args.claims.now c.loop-i.i _ _ h c.loop-i.invariant c.in_err-check_claim.ensures in
     search rules
 
 pub loop-i-preserved : goal.loop-i-preserved
 loop-i-preserved c =
     let h : c.loop-i.i < length c.args.claims.now = omega arith in
-    passed_here c.args.claims.now c.loop-i.i _ h c.loop-i.invariant c.in-ok-check-claim.ensures
+    passed_here c.args.claims.now c.loop-i.i _ h c.loop-i.invariant c.in_ok-check_claim.ensures
 
 pub returns : goal.returns
 returns c =

@@ -9,23 +9,23 @@ use Rattle.sitting.proofs.sitting.Sitting.read.Goals as goal
 
 pub returns : goal.returns
 returns g c =
-    let h = c.in-ok-case.ensures in
+    let h = c.in_ok-case.ensures in
     let f = figure_found c.args.reading.figure c.in-Some.asked (sym c.in-Some.is ∙ c.numbered.ensures) in
-    let case = unrefused_case (held c.args.self.now) c.args.reading.case c.in-ok-check-places.ensures h.answer in
+    let case = unrefused_case (held c.args.self.now) c.args.reading.case c.in_ok-check_places.ensures h.answer in
     record {
       answer = unrefused_reading (held c.args.self.now) c.args.reading case f.1;
       figure = record {
-        design = design_of c.in-ok-case.case;
+        design = design_of c.in_ok-case.case;
         stands = h.stands;
-        read = subst (λ (n : ℕ). ReadOutOf g.A.Arithmetic.model.fineness (figure_millionths n (design_of c.in-ok-case.case)) c.figure.result.0 c.figure.result.1) (sym f.0) c.figure.ensures;
+        read = subst (λ (n : ℕ). ReadOutOf g.A.Arithmetic.model.fineness (figure_millionths n (design_of c.in_ok-case.case)) c.figure.result.0 c.figure.result.1) (sym f.0) c.figure.ensures;
       };
     }
 
-pub returns-in-default : goal.returns-in-default
-returns-in-default g c =
-    let h = c.in-ok-case.ensures in
-    let case = unrefused_case (held c.args.self.now) c.args.reading.case c.in-ok-check-places.ensures h.answer in
+pub returns-in_default : goal.returns-in_default
+returns-in_default g c =
+    let h = c.in_ok-case.ensures in
+    let case = unrefused_case (held c.args.self.now) c.args.reading.case c.in_ok-check_places.ensures h.answer in
     record {
-      answer = no_reading (held c.args.self.now) c.args.reading case (no_figure c.args.reading.figure (sym c.in-default.is ∙ c.numbered.ensures));
+      answer = no_reading (held c.args.self.now) c.args.reading case (no_figure c.args.reading.figure (sym c.in_default.is ∙ c.numbered.ensures));
       figure = tt;
     }
