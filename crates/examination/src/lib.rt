@@ -1,7 +1,6 @@
-//! Any list of calls, answered in turn: on a book, or in the sitting that it is opened to.
+//! What a sitting's calls need above the sitting: what may be read in each arithmetic.
+#![tactic(auto)]
+
 mod reading;
-mod running;
-mod turns;
 
 pub use reading::Readable;
-pub use running::{run, run_without_readings};

@@ -62,7 +62,15 @@ fn chosen<A: Arithmetic>(case: &Case, worked: &Worked<A>, figure: Figure) -> A
     }
 }
 
-fn millionths<A: Arithmetic>(case: &Case, worked: &Worked<A>, figure: Figure) -> A
+fn millionths<A: Arithmetic>(case: &Case, figure: Figure) -> A
+    ensures { MillionthsKnown A.model (design_of case.now) (figure_number figure) result }
+{
+    let worked = Worked::<A>::of(case);
+    millionths_worked(case, &worked, figure)
+}
+
+// The same of a case whose quantities are worked out.
+fn millionths_worked<A: Arithmetic>(case: &Case, worked: &Worked<A>, figure: Figure) -> A
     requires { WorkedKnown A.model (design_of case.now) worked.now }
     ensures { MillionthsKnown A.model (design_of case.now) (figure_number figure) result }
 {
@@ -91,7 +99,7 @@ fn mark_worked<A: Arithmetic>(
     requires { WorkedKnown A.model (design_of case.now) worked.now }
     ensures { Marked A.model claim.value (figure_millionths (figure_number figure) (design_of case.now)) result }
 {
-    let value = millionths(case, worked, figure);
+    let value = millionths_worked(case, worked, figure);
     let low = parts::<A>(99 * claim.value, 100);
     let high = parts::<A>(101 * claim.value, 100);
     let above = low.at_most(value);
@@ -135,8 +143,7 @@ pub fn mark_all<A: Arithmetic>(case: &Case, claims: &mut [Claim])
 pub fn figure<A: ReadOut>(case: &Case, figure: Figure) -> (u64, u64)
     ensures { ReadOutOf A.Arithmetic.model.fineness (figure_millionths (figure_number figure) (design_of case.now)) result.0 result.1 }
 {
-    let worked = Worked::<A>::of(case);
-    let value = millionths(case, &worked, figure);
+    let value = millionths::<A>(case, figure);
     let Some(below) = value.floor() else {
         return (0, 0);
     };

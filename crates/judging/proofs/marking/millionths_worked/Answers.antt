@@ -1,7 +1,7 @@
 use Rattle.judging.specs.Answers.{figure_number}
 use Rattle.quantities.specs.Case.{design_of}
 use Rattle.judging.proofs.Marks.{millionths_known}
-use Rattle.judging.proofs.marking.millionths.Goals as goal
+use Rattle.judging.proofs.marking.millionths_worked.Goals as goal
 
 pub returns : goal.returns
 returns g c =
