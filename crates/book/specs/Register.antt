@@ -1,5 +1,5 @@
 -- The register: what stands at each place of each kind of record, as calls with these arguments leave it.
-use Rattle.std.specs.Prelude.{◌≡◌, ℕ, ◌-◌, cond, ◌&&◌, List, replicate, Some, None, Option, ◌==◌, nat_le, slice_index_or, slice_set}
+use Rattle.std.specs.Prelude.{ℕ, ◌-◌, cond, ◌&&◌, List, replicate, Some, None, Option, ◌==◌, nat_le, slice_index_or, slice_set}
 use Rattle.book.specs.declared.kind.Kind.{Kind}
 use Rattle.book.specs.declared.kind.Kind.TheVariants.{Section, Embedment, Shape, Grid, Site}
 use Rattle.records.specs.Cause.{Refusal, refusal, first}

@@ -1,4 +1,6 @@
 //! The book: numbered places for the five kinds of record.
+#![tactic(auto)]
+
 mod book;
 mod kind;
 mod record;

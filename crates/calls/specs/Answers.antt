@@ -1,8 +1,7 @@
 -- The answers: each has a number, and values.
-use Rattle.std.specs.Prelude.{ℕ, List, [], ◌∷◌, map, Some, None, Option}
+use Rattle.std.specs.Prelude.{ℕ, List, [], ◌∷◌, map}
 use Rattle.calls.specs.declared.answer.Answer.{Answer}
 use Rattle.calls.specs.declared.answer.Answer.TheVariants.{Done, Judged, Read, Marked, Tallied, Refused}
-use Rattle.calls.specs.declared.answer.Tallies.{Tallies}
 use Rattle.judging.specs.Answers.{state_number, verdict_number, states}
 use Rattle.judging.specs.declared.sheet.Sheet.{Sheet}
 use Rattle.records.specs.Cause.{Refusal, stated}

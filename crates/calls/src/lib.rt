@@ -1,4 +1,6 @@
 //! The calls of an examination, and their answers.
+#![tactic(auto)]
+
 mod answer;
 mod call;
 

@@ -1,15 +1,14 @@
 -- Enclosures are equal where their ends are, whatever proof that the radix is one.
-use Rattle.std.proofs.Common.{◌≡◌, ℕ, ◌*◌, ◌^◌, ◌<◌, ◌≤◌, Bool, true, false, cond, not, T, ltb, leb, Some, None, Option, sym, refl, ap, ◌∙◌, subst, mul-le-mul_right, mul-lt-mul_of_pos_right, lt_of_not-le, le-ltb, lt-ltb, le-leb}
+use Rattle.std.proofs.Common.{◌≡◌, ℕ, ◌*◌, ◌<◌, Bool, true, false, not, T, ltb, leb, Option, sym, refl, ap, ◌∙◌, subst, mul-le-mul_right, mul-lt-mul_of_pos_right, lt_of_not-le, le-ltb, lt-ltb, le-leb}
 use mathlib.Core.HLevel.{is_prop→PathP}
 use native.Mathlib.Decide.{dec_le}
 use mathlib.Core.Logic.{dite}
 use borrow.Author.Tests.{lt-leb}
 use Rattle.rounding.specs.Radix.{Radix}
-use Rattle.rounding.specs.Rounded.{rounded, divided, or_zero, Ordered, in_order}
+use Rattle.rounding.specs.Rounded.{rounded, divided, Ordered, in_order}
 use Rattle.rounding.specs.declared.rounding.Rounding.{Rounding}
 use Rattle.rounding.specs.declared.end.End.{End}
 use Rattle.rounding.proofs.Ends.{radix_prop}
-use Rattle.digits.specs.Meaning.{spanning}
 use Rattle.digits.specs.declared.span.Enclosure.{Enclosure}
 
 T_prop : (b : Bool) → IsProp (T b)

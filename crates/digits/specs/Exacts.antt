@@ -1,18 +1,17 @@
 -- A rounded quantity, as a fraction: on its side of the exact one, and within 1 / W of it.
-use Rattle.std.specs.Prelude.{◌≡◌, ℕ, zero, suc, ◌+◌, ◌-◌, ◌*◌, ◌^◌, ◌<◌, ◌≤◌, max, Some, None, Option, refl}
-use Rattle.std.proofs.Common.{sym, ap, ◌∙◌, mul-pos, mul-le-mul, mul-le-mul_left, mul-le-mul_right, le_of_mul-le-mul_right, lt_of_not-le, arith}
+use Rattle.std.specs.Prelude.{◌≡◌, ℕ, ◌+◌, ◌*◌, ◌^◌, ◌<◌, ◌≤◌, max, Some, None, Option}
+use Rattle.std.proofs.Common.{ap, mul-le-mul_left, mul-le-mul_right, le_of_mul-le-mul_right, lt_of_not-le, arith}
 use Rattle.std.proofs.Math.Path.{subst}
 use Rattle.std.proofs.Math.Decide.{dec_le}
 use Rattle.std.proofs.Math.Logic.{dite}
 use Rattle.fraction.specs.Fraction.{Fraction, ratio, whole, ◌⊕◌, ◌⊘◌, ◌≼◌}
 use Rattle.fraction.proofs.Order.{le_trans, one_max, plus_first}
-use Rattle.enclosure.specs.Model.{Upper, Below, Near, huge, tiny}
+use Rattle.enclosure.specs.Model.{Below, Near, huge, tiny}
 use Rattle.rounding.specs.Radix.{Radix}
-use Rattle.rounding.specs.Rounded.{rounded, units, or_zero}
+use Rattle.rounding.specs.Rounded.{rounded, or_zero}
 use Rattle.rounding.specs.declared.rounding.Rounding.TheVariants.{Down, Up}
 use Rattle.rounding.specs.declared.end.End.{End}
-use Rattle.rounding.proofs.Ends.{power_pos}
-use Rattle.rounding.proofs.Laws.{Reaches, below, below_near, above, above_near, Tops}
+use Rattle.rounding.proofs.Laws.{Reaches, below, below_near, above, above_near}
 use Rattle.digits.specs.Meaning.{value, bound}
 
 -- xn / xd is N / (u U), and g / U the rounded fraction: facts about naturals

@@ -1,18 +1,18 @@
 -- Every radix keeps the laws of an arithmetic.
-use Rattle.std.specs.Prelude.{◌≡◌, ℕ, zero, suc, ◌+◌, ◌-◌, ◌*◌, ◌^◌, ◌<◌, ◌≤◌, min, max, Bool, true, false, cond, T, Some, None, Option, nat_le, refl}
-use Rattle.std.proofs.Common.{sym, ◌∙◌, subst, mul-pos, mul-le-mul_left, mul-le-mul_right, mul-one, one-mul, lt_of_not-le, le-leb, eq-eqb, ne_eqb}
+use Rattle.std.specs.Prelude.{◌≡◌, ℕ, ◌+◌, ◌-◌, ◌*◌, ◌^◌, ◌<◌, ◌≤◌, Bool, true, false, cond, Some, None, Option, nat_le, refl}
+use Rattle.std.proofs.Common.{sym, ◌∙◌, subst, mul-le-mul_right, lt_of_not-le, le-leb, eq-eqb, ne_eqb}
 use Rattle.std.proofs.Math.Path.{ap}
 use native.Mathlib.Omega.{arith}
 use Rattle.std.proofs.Math.Dec.{lit≤}
 use Rattle.std.proofs.Math.Logic.{dite}
 use Rattle.std.proofs.Math.Decide.{dec_le}
-use Rattle.fraction.specs.Fraction.{Fraction, ratio, whole, ◌⊕◌, ◌⊗◌, ◌⊘◌, ◌⊖◌, ◌⊔◌, ◌⊓◌, ◌≼◌, Same}
-use Rattle.fraction.proofs.Order.{le_refl, le_trans, plus_le, times_le, over_le, excess_le, excess_first, above_zero, one_max, sub_mul}
+use Rattle.fraction.specs.Fraction.{Fraction, whole, ◌⊕◌, ◌⊗◌, ◌⊘◌, ◌⊖◌, ◌⊔◌, ◌⊓◌, ◌≼◌, Same}
+use Rattle.fraction.proofs.Order.{le_trans, plus_le, times_le, over_le, excess_le, excess_first, above_zero, one_max, sub_mul}
 use Rattle.fraction.proofs.Lattice.{larger_first, larger_second, smaller_mono, larger_mono, smaller_first, smaller_second, le_smaller, larger_le}
 use Rattle.enclosure.specs.Model.{Model, Upper, at, unbounded, Below, Encloses, Bounded, Near, Fine, Ends, Sound, huge, tiny}
 use Rattle.rounding.specs.Radix.{Radix}
-use Rattle.rounding.specs.Rounded.{rounded, divided, whole_end, units, or_zero, zero_end, Ordered, wider}
-use Rattle.rounding.specs.Pairs.{lower_whole, upper_whole, lower_sum, upper_sum, lower_product, upper_product, lower_quotient, upper_quotient, lower_excess, upper_excess, smaller_end, larger_end, smaller_upper, larger_upper}
+use Rattle.rounding.specs.Rounded.{rounded, divided, units, or_zero, zero_end, Ordered, wider}
+use Rattle.rounding.specs.Pairs.{lower_whole, upper_whole, upper_sum, upper_product, lower_quotient, upper_quotient, lower_excess, upper_excess, smaller_end, larger_end, smaller_upper, larger_upper}
 use Rattle.rounding.specs.declared.rounding.Rounding.TheVariants.{Down, Up}
 use Rattle.rounding.specs.declared.end.End.{End}
 use Rattle.rounding.proofs.Ends.{power_pos, zero_units}

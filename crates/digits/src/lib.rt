@@ -1,4 +1,6 @@
 //! Two enclosure arithmetics, one implementation over the radix: binary and decimal.
+#![tactic(auto)]
+
 mod binary;
 mod decimal;
 mod span;

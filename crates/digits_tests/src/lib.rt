@@ -1,5 +1,7 @@
 //! Examples of both arithmetics at their edges. The expected digits are computed by hand: an end is `digits` times the
 //! base to `exponent` units, a unit 2^-180 or 10^-52.
+#![tactic(auto)]
+
 #[cfg(test)]
 mod tests {
     use digits::{Binary, Decimal};

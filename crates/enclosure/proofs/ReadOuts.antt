@@ -1,11 +1,11 @@
 -- What is read out bounds what is enclosed.
-use Rattle.std.proofs.Common.{◌≡◌, ℕ, ◌+◌, ◌-◌, ◌*◌, ◌/◌, ◌^◌, ◌≤◌, Bool, true, false, cond, leb, Some, None, Option, div-mul-le_self, arith}
+use Rattle.std.proofs.Common.{ℕ, ◌+◌, ◌-◌, ◌/◌, Bool, true, false, cond, Some, None, div-mul-le_self, arith}
 use native.Mathlib.Nat.{lt-div-mul-add}
 use Rattle.fraction.specs.Fraction.{Fraction, whole, ◌≼◌}
 use Rattle.fraction.proofs.Order.{le_trans}
 use Rattle.enclosure.specs.Model.{Upper, at, unbounded, Below}
-use Rattle.enclosure.specs.Readings.{read_below, read_above, Under, Over}
-use Rattle.enclosure.specs.Theorems.{ReadingsBound, Bounds}
+use Rattle.enclosure.specs.Readings.{read_above, Under, Over}
+use Rattle.enclosure.specs.Theorems.{ReadingsBound}
 
 floor_le : (x : Fraction) → whole (x.num / x.den) ≼ x
 unfolding whole

@@ -1,5 +1,5 @@
 -- What comparing two enclosures answers.
-use Rattle.std.specs.Prelude.{ℕ, ◌*◌, Bool, true, false, cond, nat_le, nat_lt}
+use Rattle.std.specs.Prelude.{ℕ, ◌*◌, Bool, false, cond, nat_le, nat_lt}
 use Rattle.fraction.specs.Fraction.{Fraction}
 use Rattle.enclosure.specs.Model.{Model, Upper, at, unbounded}
 use Rattle.enclosure.specs.declared.Comparison.{Comparison}

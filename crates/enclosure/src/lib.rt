@@ -1,4 +1,6 @@
 //! What an enclosure arithmetic is: the operations, the laws that each implementation shows, and reading out.
+#![tactic(auto)]
+
 ghost use Rattle.std.specs.Prelude.{◌≡◌};
 ghost use Rattle.enclosure.specs.Answer.{number, compared};
 ghost use Rattle.enclosure.specs.Model.{Model, Sound};

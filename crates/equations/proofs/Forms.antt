@@ -1,9 +1,9 @@
 -- The forms of a computation are the equations' own.
 use mathlib.Core.Path.{◌≡◌, subst}
-use mathlib.Core.Bool.{Bool, not, ◌&&◌, ◌||◌}
+use mathlib.Core.Bool.{not}
 use mathlib.Core.Logic.{dite}
 use native.Mathlib.Decide.{dec_le}
-use Prim.Native.Nat.{ℕ, ◌+◌, ◌-◌, ◌*◌, ◌≤◌, ◌<◌, max}
+use Prim.Native.Nat.{ℕ, ◌+◌, ◌-◌, ◌*◌, ◌<◌, max}
 use native.Mathlib.Nat.{mul-pos, lt_of_not-le}
 use native.Mathlib.Omega.{arith}
 use borrow.Author.Tests.{le-leb, lt-leb, lt-ltb, le-ltb}
@@ -13,12 +13,12 @@ use Rattle.fraction.specs.Ratio.{at_most}
 use Rattle.fraction.proofs.Order as order
 use Rattle.fraction.proofs.Sames as same
 use Rattle.equations.specs.Units.{tenths, hundredths, thousandths, millionths, cubed}
-use Rattle.equations.specs.Design.{Design, fill_depth, centroid_diameter}
+use Rattle.equations.specs.Design.{fill_depth, centroid_diameter}
 use Rattle.equations.specs.LiveLoad.{impact, wheel_width, wheels_pair}
 use Rattle.equations.specs.Soil.{fully_supported}
 use Rattle.equations.specs.Bending.{computed_stiffness, farther_face}
-use Rattle.equations.specs.Regrouped.{AllRegroup, Regroups, impact_units, wheel_units, face_units, stiffness_units, centroid_cube}
-use Rattle.equations.proofs.Arching.{same_by, difference, arching_parts}
+use Rattle.equations.specs.Regrouped.{AllRegroup}
+use Rattle.equations.proofs.Arching.{same_by, arching_parts}
 use Rattle.equations.proofs.Prism.{same_test, prism_same}
 
 -- 1 + 0.33 (1 - h / 96,000) with h + e = 96,000

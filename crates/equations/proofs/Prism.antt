@@ -1,6 +1,5 @@
 -- The prism pressure as a whole number over one scale.
 use mathlib.Core.Path.{◌≡◌, ◌∙◌, sym}
-use mathlib.Core.Bool.{Bool, cond}
 use mathlib.Core.Logic.{dite}
 use native.Mathlib.Decide.{dec_le}
 use Prim.Native.Nat.{ℕ, ◌+◌, ◌-◌, ◌*◌, ◌≤◌, ◌<◌}
@@ -8,14 +7,14 @@ use native.Mathlib.Nat.{lt_of_not-le}
 use native.Mathlib.Omega.{arith}
 use borrow.Author.Tests.{le-leb, lt-leb}
 use lib.Dec.{leb, lit<}
-use Rattle.fraction.specs.Fraction.{Fraction, ratio, whole, ◌⊕◌, ◌⊗◌, ◌⊘◌, ◌⊖◌, Same}
+use Rattle.fraction.specs.Fraction.{whole, ◌⊕◌, ◌⊗◌, ◌⊘◌, ◌⊖◌, Same}
 use Rattle.fraction.specs.Ratio.{at_most}
 use Rattle.fraction.proofs.Sames as same
 use Rattle.equations.specs.Units.{tenths, hundredths, thousandths}
 use Rattle.equations.specs.Design.{Design}
 use Rattle.equations.specs.Pressures.{crown_water, dry_prism, wet_prism, prism_pressure}
 use Rattle.equations.specs.Regrouped.{Drained, dry_units, wet_units, prism_units}
-use Rattle.equations.proofs.Arching.{same_by, difference}
+use Rattle.equations.proofs.Arching.{same_by}
 
 -- one decision, by the two orders
 pub same_test : (a b c d : ℕ) → (a ≤ b → c ≤ d) → (c ≤ d → a ≤ b) → leb a b ≡ leb c d

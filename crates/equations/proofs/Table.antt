@@ -1,19 +1,18 @@
 -- The values worked by hand.
-use mathlib.Core.Path.{◌≡◌, refl, ◌∙◌, ap}
-use mathlib.Core.Bool.{Bool, true, false, cond, ◌||◌}
-use Prim.Native.Nat.{ℕ, ◌*◌}
+use mathlib.Core.Path.{◌≡◌, ◌∙◌}
+use mathlib.Core.Bool.{true, false}
+use Prim.Native.Nat.{◌*◌}
 use native.Mathlib.Omega.{arith}
 use borrow.Author.Tests.{le-leb}
-use lib.Dec.{leb, lit≤}
-use Rattle.fraction.specs.Fraction.{Fraction, whole, ◌⊕◌, ◌⊗◌, ◌⊘◌, ◌⊖◌, ◌⊓◌, Same}
+use lib.Dec.{lit≤}
+use Rattle.fraction.specs.Fraction.{whole, ◌⊕◌, ◌⊗◌, ◌⊘◌, ◌⊖◌, ◌⊓◌}
 use Rattle.lookups.specs.Line.{chord}
-use Rattle.lookups.specs.Lookup.{modulus_at, shape_at, support_at}
+use Rattle.lookups.specs.Lookup.{support_at}
 use Rattle.equations.specs.Design.{Design}
 use Rattle.equations.specs.Pressures.{crown_water, wet_prism, prism_pressure, water_pressure}
 use Rattle.equations.specs.LiveLoad.{wheels_pair}
 use Rattle.equations.specs.Soil.{fully_supported, support_factor}
 use Rattle.equations.specs.Thrust.{arching}
-use Rattle.equations.specs.Regrouped.{wheel_units}
 use Rattle.equations.specs.Tabulated.{Tabulated}
 use Rattle.equations.proofs.Forms.{all_regroup}
 

@@ -1,5 +1,5 @@
 -- The forms in which a computation takes quantities, so that each difference and each decision is one of whole numbers.
-use Rattle.std.specs.Prelude.{◌≡◌, Bool, cond, ◌&&◌, ◌||◌, ℕ, ◌+◌, ◌-◌, ◌*◌, ◌≤◌, ◌<◌, max, leb, ltb}
+use Rattle.std.specs.Prelude.{◌≡◌, cond, ◌&&◌, ◌||◌, ℕ, ◌+◌, ◌-◌, ◌*◌, ◌≤◌, max, leb, ltb}
 use Rattle.fraction.specs.Fraction.{Fraction, whole, ◌⊕◌, ◌⊗◌, ◌⊘◌, Same}
 use Rattle.fraction.specs.Ratio.{at_most}
 use Rattle.equations.specs.Units.{tenths, hundredths, thousandths, ten_thousandths}

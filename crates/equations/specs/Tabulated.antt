@@ -1,9 +1,8 @@
 -- Values worked by hand, which the equations meet.
-use Rattle.std.specs.Prelude.{◌≡◌, refl, true, false, List, [], ◌∷◌, ℕ, ◌*◌}
+use Rattle.std.specs.Prelude.{◌≡◌, refl, true, false, [], ◌∷◌, ◌*◌}
 use Rattle.std.proofs.Common.{lit≤, lit<}
-use Rattle.fraction.specs.Fraction.{Fraction, whole, ◌⊗◌, ◌⊘◌, Same}
+use Rattle.fraction.specs.Fraction.{whole, ◌⊗◌, ◌⊘◌, Same}
 use Rattle.lookups.specs.Lookup.{modulus_at, shape_at, support_at}
-use Rattle.records.specs.declared.point.Point.{Point}
 use Rattle.records.specs.declared.section.Section.{Section}
 use Rattle.records.specs.declared.site.LiveLoad.TheVariants.{Truck}
 use Rattle.records.specs.declared.site.Site.{Site}

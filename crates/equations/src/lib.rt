@@ -1,4 +1,6 @@
 //! The equations of a buried pipe in exact fractions, from its records to the sides of its limit states: definitions, and what holds of them.
+#![tactic(auto)]
+
 ghost use Rattle.equations.specs.Regrouped.{AllRegroup, ArchingLaw};
 ghost use Rattle.equations.specs.Tabulated.{Tabulated};
 

@@ -1,12 +1,11 @@
 -- Ratios that the code makes, and the turns of their comparison.
-use Rattle.std.proofs.Common.{◌≡◌, ℕ, zero, suc, ◌+◌, ◌*◌, ◌/◌, ◌%◌, ◌<◌, ◌≤◌, Bool, true, false, ltb, leb, Some, None, Option, sym, refl, ap, ◌∙◌, mul-le-mul_right, mod-lt, mul-lt-mul_of_pos_right, lt_of_not-le, arith, le-ltb, lt-ltb, le-leb}
+use Rattle.std.proofs.Common.{◌≡◌, ℕ, zero, suc, ◌+◌, ◌*◌, ◌/◌, ◌%◌, ◌<◌, ◌≤◌, ltb, leb, Some, sym, ap, ◌∙◌, mul-le-mul_right, mod-lt, mul-lt-mul_of_pos_right, lt_of_not-le, arith, le-ltb, lt-ltb, le-leb}
 use mathlib.Core.Logic.{dite}
 use native.Mathlib.Decide.{dec_le}
 use native.Mathlib.Nat.{div-add-mod}
 use native.Mathlib.Bridge.{le_prop}
 use borrow.Author.Tests.{lt-leb}
 use Rattle.fraction.specs.Ratio.{ratio_of}
-use Rattle.fraction.specs.declared.ratio.Ratio.{Ratio}
 
 pub made : (n d : ℕ) (p : 0 < d) → Some (record { num = n; den = d; positive = p }) ≡ ratio_of n d
 made n zero p = absurd (omega arith)

@@ -1,4 +1,6 @@
 //! Exact fractions: the definitions that promises are stated in, and ratios of whole numbers for exact decisions.
+#![tactic(auto)]
+
 mod ratio;
 
 ghost use Rattle.std.specs.Prelude.{◌≡◌, ◌*◌, ◌<◌, nat_le};

@@ -1,6 +1,6 @@
 -- A ratio in millionths, enclosed.
-use Rattle.std.proofs.Common.{ℕ, ◌^◌, ◌<◌, arith, lit≤}
-use Rattle.fraction.specs.Fraction.{Fraction, whole, ratio, ◌⊗◌, ◌⊘◌, Same}
+use Rattle.std.proofs.Common.{◌^◌, ◌<◌, lit≤}
+use Rattle.fraction.specs.Fraction.{whole, ratio, ◌⊗◌, ◌⊘◌, Same}
 use Rattle.fraction.specs.Ratio.{value}
 use Rattle.fraction.specs.declared.ratio.Ratio.{Ratio}
 use Rattle.fraction.proofs.Sames as same

@@ -1,5 +1,7 @@
 //! Takes a worked example of buried-pipe design through the library, and prints each step: a 36-inch polypropylene
 //! storm drain under 15 feet of fill, with water 8 feet above its springline.
+#![tactic(auto)]
+
 ghost use Rattle.std.specs.Prelude.{◌≡◌};
 ghost use Rattle.handbook.specs.Example.{Bounded, agrees, bounds_agree, hydrostatic_pressure, prism_pressure};
 ghost use Rattle.fraction.specs.Fraction.{Same};

@@ -1,5 +1,5 @@
 -- Which claims can be marked, and one claim more in a loop that marks.
-use Rattle.std.proofs.Common.{◌≡◌, ℕ, ◌+◌, ◌^◌, ◌<◌, ◌≤◌, Bool, true, false, cond, ◌&&◌, eqb, leb, ◌⊎◌, List, [], ◌∷◌, ◌++◌, length, get_or, take, drop, set, Some, None, Option, sym, refl, ap, ◌∙◌, subst, inl, inr, arith}
+use Rattle.std.proofs.Common.{◌≡◌, ℕ, ◌+◌, ◌<◌, ◌≤◌, Bool, true, false, cond, ◌&&◌, leb, List, [], ◌∷◌, ◌++◌, length, get_or, take, drop, set, Some, None, Option, sym, refl, ◌∙◌, inl, inr, arith}
 use Rattle.std.proofs.lemmas.List.{take_more, take_more_set, drop_more, take_all, drop-set-lt}
 use Rattle.std.proofs.lemmas.Bool.{cases_eq, cases_Bool, ne_eqb, eq-eqb, leb-true, and_parts, and_from, and_left, and_right, true≢false}
 use Rattle.enclosure.specs.Model.{Model}
@@ -7,7 +7,7 @@ use Rattle.equations.specs.Design.{Design}
 use Rattle.equations.specs.Figures.{figure_millionths}
 use Rattle.judging.specs.Answers.{figure_number, figure_list, numbered_in, figure_numbered}
 use Rattle.judging.specs.Claim.{claimed, stated_claim}
-use Rattle.judging.specs.Claims.{on_figure, in_range, Earned, ClaimMarked, ClaimsMarked}
+use Rattle.judging.specs.Claims.{on_figure, in_range, ClaimMarked, ClaimsMarked}
 use Rattle.judging.specs.Judged.{Marked}
 use Rattle.judging.specs.declared.answer.Figure.{Figure}
 use Rattle.judging.specs.declared.answer.Figure.TheVariants.{PrismPressure, SoilModulus, HoopStiffness, VerticalArching, DesignThrust, ThrustStrain, ServiceStrain, Deflection}

@@ -1,5 +1,5 @@
 -- What comparing the sides of each limit state tells.
-use Rattle.std.proofs.Common.{◌≡◌, ℕ, ◌+◌, ◌^◌, ◌≤◌, Bool, true, false, not, T, leb, sym, refl, ap, ◌∙◌, subst, arith, leb→le, eq-eqb, ne_eqb}
+use Rattle.std.proofs.Common.{◌≡◌, ℕ, ◌+◌, ◌≤◌, Bool, not, T, leb, sym, refl, ap, ◌∙◌, subst, arith, leb→le, eq-eqb, ne_eqb}
 use Rattle.fraction.specs.Fraction.{Fraction, whole, ◌⊕◌, ◌⊗◌, ◌⊘◌}
 use Rattle.enclosure.specs.Model.{Model, Sound}
 use Rattle.enclosure.specs.Answer.{compared}
@@ -7,8 +7,8 @@ use Rattle.enclosure.specs.Formula.{computed}
 use Rattle.enclosure.specs.Close.{Close}
 use Rattle.enclosure.proofs.Closeness.{encloses}
 use Rattle.enclosure.proofs.Comparisons.{said_yes, said_no, said_unknown}
-use Rattle.enclosure.proofs.Trees.{Tree, as_tree, field, exact, value, grade, ok, closed}
-use Rattle.equations.specs.Units.{tenths, ten_thousandths}
+use Rattle.enclosure.proofs.Trees.{Tree, as_tree, exact, value, grade, ok, closed}
+use Rattle.equations.specs.Units.{tenths}
 use Rattle.equations.specs.Design.{Design, centroid_diameter, fill_depth}
 use Rattle.equations.specs.Limits.{left, right, bending_strain, tension_allowed, compression_allowed, buckling_cube, flexibility, uplift, hold_down, buoyant}
 use Rattle.equations.proofs.Forms.{all_regroup}

@@ -1,6 +1,6 @@
 -- What marking a claim tells, and the figures by their numbers.
-use Rattle.std.proofs.Common.{◌≡◌, ℕ, ◌+◌, ◌*◌, ◌^◌, ◌≤◌, ◌⊎◌, sym, refl, ap, ◌∙◌, subst, inl, inr, arith, lit≤}
-use Rattle.fraction.specs.Fraction.{Fraction, whole, ◌⊗◌, ◌⊘◌}
+use Rattle.std.proofs.Common.{◌≡◌, ℕ, ◌*◌, ◌^◌, ◌≤◌, ◌⊎◌, sym, refl, ap, ◌∙◌, subst, inl, inr, arith, lit≤}
+use Rattle.fraction.specs.Fraction.{Fraction, whole, ◌⊘◌}
 use Rattle.enclosure.specs.Model.{Model, Sound}
 use Rattle.enclosure.specs.Answer.{number, compared}
 use Rattle.enclosure.specs.Formula.{computed}
@@ -8,9 +8,8 @@ use Rattle.enclosure.specs.Close.{Close}
 use Rattle.enclosure.specs.declared.Comparison.{Comparison}
 use Rattle.enclosure.specs.declared.Comparison.TheVariants.{Yes, No, Unknown}
 use Rattle.enclosure.proofs.Comparisons.{said_yes, said_no, said_unknown}
-use Rattle.enclosure.proofs.Trees.{Tree, as_tree, field, closed}
+use Rattle.enclosure.proofs.Trees.{as_tree, field, closed}
 use Rattle.equations.specs.Design.{Design}
-use Rattle.equations.specs.Figures.{figure, figure_millionths}
 use Rattle.judging.specs.Answers.{mark_number, figure_number}
 use Rattle.quantities.specs.Formulas.{parts_of}
 use Rattle.judging.specs.Judged.{Marked, mark_of, low_edge, high_edge}
@@ -18,7 +17,7 @@ use Rattle.quantities.specs.Known.{Known}
 use Rattle.judging.specs.Figured.{FigureKnown, MillionthsKnown}
 use Rattle.judging.specs.declared.answer.Figure.{Figure}
 use Rattle.judging.specs.declared.answer.Mark.{Mark}
-use Rattle.quantities.proofs.Known.{leaf, known, known_at}
+use Rattle.quantities.proofs.Known.{leaf, known}
 use Rattle.judging.proofs.Compared.{enclosure_of}
 
 -- which answers a mark comes from

@@ -1,18 +1,17 @@
 -- What the verdict on a judged sheet means.
-use Rattle.std.proofs.Common.{◌≡◌, ℕ, Bool, true, false, cond, ◌||◌, List, [], ◌∷◌, Some, None, Option, sym, refl, ◌∙◌, subst, arith}
+use Rattle.std.proofs.Common.{◌≡◌, ℕ, Bool, true, false, cond, ◌||◌, Some, None, Option, sym, refl, ◌∙◌, subst, arith}
 use Rattle.fraction.specs.Fraction.{Fraction, ◌≼◌, ◌≺◌}
 use Rattle.fraction.specs.Graded.{Band}
 use Rattle.enclosure.specs.Model.{Model}
 use Rattle.enclosure.specs.Answer.{compared, ends_by, ends_below}
 use Rattle.equations.specs.Design.{Design}
 use Rattle.equations.specs.Limits.{left, right, buoyant}
-use Rattle.judging.specs.Answers.{state_number, limit_number, failing, unsettled, first_failing, any_unsettled, decided, limit_states, states, verdict_of}
+use Rattle.judging.specs.Answers.{limit_number, failing, unsettled, first_failing, any_unsettled, decided, limit_states, states}
 use Rattle.judging.specs.Judged.{Judged, Asked, SheetJudged, Met, Means}
 use Rattle.judging.specs.declared.answer.LimitState.{LimitState}
 use Rattle.judging.specs.declared.answer.LimitState.TheVariants.{Thrust, NetTension, Combined, Deflection, Buckling, Flexibility, Buoyancy}
 use Rattle.judging.specs.declared.answer.State.{State}
 use Rattle.judging.specs.declared.answer.State.TheVariants.{Holds, Fails, Undecided, NotApplied}
-use Rattle.judging.specs.declared.answer.Verdict.{Verdict}
 use Rattle.judging.specs.declared.answer.Verdict.TheVariants.{Accepted, Rejected, Undecided as NoVerdict}
 use Rattle.judging.specs.declared.sheet.Sheet.{Sheet}
 

@@ -1,13 +1,12 @@
 -- The whole numbers that a narrow enclosure is read out in.
-use Rattle.std.proofs.Common.{◌≡◌, ℕ, ◌+◌, ◌-◌, ◌*◌, ◌/◌, ◌%◌, ◌^◌, ◌<◌, ◌≤◌, max, cond, leb, Some, None, Option, sym, refl, ap, ◌∙◌, subst, mul-le-mul_right, mod-lt, le_of_mul-le-mul_right, arith, lit≤, le-leb}
+use Rattle.std.proofs.Common.{◌≡◌, ℕ, ◌+◌, ◌-◌, ◌*◌, ◌/◌, ◌^◌, ◌<◌, ◌≤◌, Some, ap, ◌∙◌, mul-le-mul_right, mod-lt, le_of_mul-le-mul_right, arith, lit≤, le-leb}
 use native.Mathlib.Nat.{div-add-mod}
 use Rattle.fraction.specs.Fraction.{Fraction, ratio, whole, ◌⊕◌, ◌⊗◌, ◌⊘◌, ◌≼◌, Same}
 use Rattle.fraction.specs.Graded.{Within}
 use Rattle.fraction.proofs.Graded as graded
 use Rattle.fraction.proofs.Order as order
 use Rattle.fraction.proofs.Sames as same
-use Rattle.enclosure.specs.Model.{Model, Sound, Upper, at}
-use Rattle.enclosure.specs.Close.{Close}
+use Rattle.enclosure.specs.Model.{Model, Sound}
 use Rattle.enclosure.specs.Readings.{readable, read_below, read_above}
 use Rattle.enclosure.proofs.Closeness.{fine_positive}
 use Rattle.lookups.proofs.Same.{same_by}

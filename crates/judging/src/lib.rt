@@ -1,4 +1,6 @@
 //! Judging and marking a case, in every enclosure arithmetic.
+#![tactic(auto)]
+
 mod answer;
 mod claim;
 mod claims;

@@ -1,4 +1,6 @@
 //! Tests of cases, figures' numbers, claims, sheets and marks, at their edges.
+#![tactic(auto)]
+
 #[cfg(test)]
 mod cases;
 #[cfg(test)]

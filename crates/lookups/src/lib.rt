@@ -1,4 +1,6 @@
 //! Exact lookups on the records' curves and grids.
+#![tactic(auto)]
+
 mod axes;
 mod cell;
 mod curves;

@@ -1,6 +1,6 @@
 -- What is known of the bending factor.
-use Rattle.std.proofs.Common.{◌≡◌, ℕ, ◌+◌, ◌-◌, ◌*◌, ◌^◌, ◌<◌, ◌≤◌, max, cond, map, sym, mul-le-mul, mul-pos, arith, lit<, eq-eqb, ne_eqb}
-use Rattle.fraction.specs.Fraction.{Fraction, ratio, whole, ◌⊗◌, ◌⊘◌, Same}
+use Rattle.std.proofs.Common.{◌≡◌, ℕ, ◌*◌, ◌^◌, ◌<◌, ◌≤◌, map, mul-le-mul, mul-pos, arith, lit<, eq-eqb, ne_eqb}
+use Rattle.fraction.specs.Fraction.{Fraction, whole, Same}
 use Rattle.fraction.specs.Ratio.{value}
 use Rattle.fraction.specs.declared.ratio.Ratio.{Ratio}
 use Rattle.fraction.proofs.Sames as same
@@ -10,9 +10,8 @@ use Rattle.enclosure.proofs.Trees.{as_tree, field, long, closed}
 use Rattle.lookups.specs.Lookup.{shape_at}
 use Rattle.lookups.proofs.Cells.{line_cong}
 use Rattle.lookups.proofs.Same.{same_over_by}
-use Rattle.equations.specs.Units.{hundredths}
-use Rattle.equations.specs.Design.{Design, centroid_diameter}
-use Rattle.equations.specs.Bending.{computed_stiffness, pipe_stiffness, shape_factor, farther_face}
+use Rattle.equations.specs.Design.{Design}
+use Rattle.equations.specs.Bending.{pipe_stiffness, shape_factor, farther_face}
 use Rattle.equations.specs.Regrouped.{face_units, centroid_cube}
 use Rattle.equations.proofs.Forms.{all_regroup}
 use Rattle.quantities.specs.Known.{Known}
@@ -20,7 +19,7 @@ use Rattle.quantities.specs.Formulas.{parts_of, long_parts_of, bending_factor_of
 use Rattle.quantities.specs.Measured.{Measured}
 use Rattle.quantities.specs.Quantities.{Bending, LoadFactor}
 use Rattle.quantities.specs.declared.measures.Measures.{Measures}
-use Rattle.quantities.proofs.Known.{leaf, known, known_at, known_along}
+use Rattle.quantities.proofs.Known.{known, known_at, known_along}
 use Rattle.quantities.proofs.Quantities.{bending_known}
 use Rattle.quantities.proofs.Supports.{pair_same, at_least_pair, at_most_pair}
 

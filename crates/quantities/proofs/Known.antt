@@ -1,17 +1,12 @@
 -- What is known of a formula, by one test on its tree.
-use Rattle.std.proofs.Common.{◌≡◌, ℕ, ◌+◌, ◌*◌, ◌<◌, ◌≤◌, Bool, ◌&&◌, T, ltb, leb, Some, None, Option, sym, subst, arith, leb→le}
+use Rattle.std.proofs.Common.{◌≡◌, ℕ, ◌*◌, Bool, ◌&&◌, T, leb, Option, sym, subst, leb→le}
 use lib.Ieee.Fits.{and_l, and_r}
-use Rattle.fraction.specs.Fraction.{Fraction, ratio, whole, ◌⊕◌, ◌⊗◌, ◌⊘◌, Same}
+use Rattle.fraction.specs.Fraction.{Fraction, Same}
 use Rattle.fraction.proofs.Order as order
-use Rattle.fraction.proofs.Sames as same
 use Rattle.enclosure.specs.Model.{Model, Sound}
-use Rattle.enclosure.specs.Formula.{computed}
-use Rattle.enclosure.specs.Close.{Close}
 use Rattle.enclosure.proofs.Closeness.{close_along, loosen}
-use Rattle.enclosure.proofs.Operations.{sum}
-use Rattle.enclosure.proofs.Trees.{Tree, given, node, as_tree, exact, value, grade, low, high, ok, closed_all, at_least, at_most}
+use Rattle.enclosure.proofs.Trees.{Tree, given, exact, value, grade, low, high, ok, closed_all, at_least, at_most}
 use Rattle.quantities.specs.Known.{Known, Perhaps}
-use Rattle.quantities.specs.Formulas.{plus_of}
 
 module _ {E : Type 0} {m : Model E} where
   -- what is known, as a leaf

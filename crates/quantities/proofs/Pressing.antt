@@ -1,19 +1,16 @@
 -- What is known of the pressures.
-use Rattle.std.proofs.Common.{◌≡◌, ℕ, ◌+◌, ◌-◌, ◌*◌, ◌^◌, ◌<◌, ◌≤◌, min, Bool, true, false, cond, leb, sym, refl, ◌∙◌, subst, le_refl, mul-le-mul, lt_of_not-le, arith, le-leb}
-use mathlib.Core.Logic.{dite}
-use native.Mathlib.Decide.{dec_le}
+use Rattle.std.proofs.Common.{◌≡◌, ℕ, ◌+◌, ◌-◌, ◌*◌, ◌<◌, ◌≤◌, true, false, ◌∙◌, le_refl, mul-le-mul, arith, le-leb}
 use borrow.Author.Tests.{lt-leb}
-use Rattle.fraction.specs.Fraction.{Fraction, whole, ◌⊕◌, ◌⊗◌, ◌⊘◌, ◌⊓◌, Same}
+use Rattle.fraction.specs.Fraction.{Fraction, whole, ◌⊕◌, ◌⊗◌, ◌⊘◌, ◌⊓◌}
 use Rattle.fraction.specs.Ratio.{at_most}
 use Rattle.enclosure.specs.Model.{Model, Sound}
 use Rattle.enclosure.specs.Formula.{computed}
-use Rattle.enclosure.proofs.Trees.{Tree, as_tree, field}
-use Rattle.records.specs.declared.site.LiveLoad.{LiveLoad}
+use Rattle.enclosure.proofs.Trees.{as_tree, field}
 use Rattle.records.specs.declared.site.LiveLoad.TheVariants.{None as NoLoad, Truck}
 use Rattle.equations.specs.Units.{tenths}
 use Rattle.equations.specs.Design.{Design, inside_diameter, outside_diameter, fill_depth, water_depth, water_factor}
-use Rattle.equations.specs.Pressures.{prism_pressure, water_pressure}
-use Rattle.equations.specs.LiveLoad.{live_length, live_width, live_pressure, wheel_width, wheels_pair, wheel_load, truck_pressure, impact, counts}
+use Rattle.equations.specs.Pressures.{water_pressure}
+use Rattle.equations.specs.LiveLoad.{live_length, live_width, live_pressure, wheel_width, wheels_pair, wheel_load, truck_pressure, impact}
 use Rattle.equations.specs.Regrouped.{Drained, dry_units, wet_units, prism_units, wheel_units, impact_units}
 use Rattle.equations.proofs.Prism.{prism_same}
 use Rattle.equations.proofs.Forms.{all_regroup}

@@ -1,23 +1,21 @@
 -- What is known of each quantity, from what is known of those that it is computed from.
-use Rattle.std.proofs.Common.{◌≡◌, ℕ, ◌+◌, ◌*◌, ◌^◌, ◌<◌, ◌≤◌, T, Some, None, Option, refl, ap, ◌∙◌, arith, lit<}
+use Rattle.std.proofs.Common.{◌≡◌, ℕ, ◌*◌, ◌^◌, T, Some, None, Option, arith}
 use Rattle.fraction.specs.Fraction.{Fraction, whole, ◌⊕◌, ◌⊗◌, ◌⊘◌, Same}
-use Rattle.fraction.proofs.Sames as same
 use Rattle.enclosure.specs.Model.{Model, Sound}
 use Rattle.enclosure.specs.Formula.{computed}
 use Rattle.enclosure.proofs.Operations.{sum}
-use Rattle.enclosure.proofs.Trees.{Tree, as_tree, node, field, long}
+use Rattle.enclosure.proofs.Trees.{as_tree, node}
 use Rattle.equations.specs.Units.{tenths, hundredths}
-use Rattle.equations.specs.Design.{Design, inside_diameter, centroid_diameter, outside_diameter, gross_area, effective_area, wall_moment, short_modulus, long_modulus, compression_limit, tension_limit, fill_depth, water_depth, water_factor, installation_factor}
-use Rattle.equations.specs.Pressures.{prism_pressure, water_pressure}
-use Rattle.equations.specs.LiveLoad.{live_length, live_pressure, live_width, wheel_load, wheel_width, impact, live_modulus}
-use Rattle.equations.specs.Soil.{soil_modulus}
-use Rattle.equations.specs.Thrust.{hoop_stiffness, arching, vertical_arching, load_factor, length_share, spread_factor, hoop_factor, live_thrust, design_thrust, least_thrust, service_thrust}
+use Rattle.equations.specs.Design.{Design, inside_diameter, centroid_diameter, outside_diameter, gross_area, effective_area, long_modulus, installation_factor}
+use Rattle.equations.specs.Pressures.{water_pressure}
+use Rattle.equations.specs.LiveLoad.{live_length, live_pressure, live_modulus}
+use Rattle.equations.specs.Thrust.{hoop_stiffness, vertical_arching, load_factor, length_share, spread_factor, hoop_factor, live_thrust, design_thrust, least_thrust, service_thrust}
 use Rattle.equations.specs.Strains.{live_part, thrust_strain, least_strain, service_strain}
 use Rattle.equations.specs.Bending.{shape_factor, farther_face, bending_factor}
 use Rattle.equations.specs.Deflection.{resistance, soil_deflection, live_deflection, deflection}
 use Rattle.equations.proofs.Arching.{arching_parts}
 use Rattle.quantities.specs.Known.{Known, Perhaps, maybe}
-use Rattle.quantities.specs.Quantities.{Diameter, Area, Modulus, Limit, Moment, Fill, Prism, Water, Live, LiveLength, Soil, Hoop, Arching, LoadFactor, Thrust, LengthShare, LiveThrust, LivePart, Strain, Bending, Deflects}
+use Rattle.quantities.specs.Quantities.{Diameter, Area, Modulus, Moment, Fill, Prism, Water, Live, LiveLength, Soil, Hoop, Arching, LoadFactor, Thrust, LengthShare, LiveThrust, LivePart, Strain, Bending, Deflects}
 use Rattle.quantities.specs.Formulas.{parts_of, plus_of, live_length_of, hoop_stiffness_of, arching_of, load_factor_of, length_share_of, spread_factor_of, hoop_factor_of, live_thrust_of, factored_thrust_of, thrust_of, live_part_of, bending_factor_of, resistance_of, soil_deflection_of, live_deflection_of}
 use Rattle.quantities.proofs.Known.{leaf, known, known_along, meets}
 

@@ -2,9 +2,9 @@
 use Rattle.std.proofs.Common.{ℕ, ◌≤◌, arith}
 use Rattle.enclosure.specs.Model.{Model, Sound}
 use Rattle.enclosure.specs.Formula.{computed}
-use Rattle.enclosure.proofs.Trees.{Tree, as_tree, field}
+use Rattle.enclosure.proofs.Trees.{as_tree, field}
 use Rattle.equations.specs.Units.{thousandths, ten_thousandths}
-use Rattle.equations.specs.Design.{Design, wall_moment, fill_depth, installation_factor, compression_limit, tension_limit}
+use Rattle.equations.specs.Design.{Design, installation_factor}
 use Rattle.fraction.specs.Fraction.{whole}
 use Rattle.quantities.specs.Known.{Known}
 use Rattle.quantities.specs.Formulas.{parts_of}

@@ -1,21 +1,20 @@
 -- What is known of the soil's modulus.
-use Rattle.std.proofs.Common.{◌≡◌, ℕ, ◌+◌, ◌*◌, ◌^◌, ◌<◌, ◌≤◌, max, Bool, true, false, cond, ◌&&◌, ◌||◌, ltb, leb, List, map, sym, refl, ◌∙◌, subst, mul-pos, arith, lit<, le-ltb, lt-ltb, le-leb}
+use Rattle.std.proofs.Common.{◌≡◌, ℕ, ◌*◌, ◌^◌, ◌<◌, ◌≤◌, true, false, ltb, leb, map, sym, ◌∙◌, arith, lit<, le-ltb, lt-ltb, le-leb}
 use borrow.Author.Tests.{lt-leb}
-use Rattle.fraction.specs.Fraction.{Fraction, ratio, whole, ◌⊕◌, ◌⊗◌, ◌⊘◌, ◌≼◌, Same}
+use Rattle.fraction.specs.Fraction.{Fraction, ratio, whole, ◌⊗◌, ◌⊘◌, ◌≼◌, Same}
 use Rattle.fraction.specs.Ratio.{value}
 use Rattle.fraction.specs.declared.ratio.Ratio.{Ratio}
 use Rattle.fraction.proofs.Order as order
 use Rattle.fraction.proofs.Sames as same
 use Rattle.enclosure.specs.Model.{Model, Sound}
 use Rattle.enclosure.specs.Formula.{computed}
-use Rattle.enclosure.proofs.Trees.{Tree, as_tree, field, long, closed}
+use Rattle.enclosure.proofs.Trees.{as_tree, field, long, closed}
 use Rattle.lookups.specs.Lookup.{modulus_at, rows, support_at}
 use Rattle.lookups.specs.Operand.{modulus_of}
 use Rattle.lookups.specs.declared.operand.Modulus.{Modulus}
 use Rattle.lookups.proofs.Cells.{line_cong}
 use Rattle.lookups.proofs.Same.{same_by, same_over_by}
 use Rattle.equations.specs.Design.{Design}
-use Rattle.equations.specs.Pressures.{prism_pressure}
 use Rattle.equations.specs.Soil.{embedment_modulus, fully_supported, support_factor, soil_modulus}
 use Rattle.equations.specs.Regrouped.{Drained, prism_units}
 use Rattle.equations.proofs.Prism.{prism_same}

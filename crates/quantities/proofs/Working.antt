@@ -1,17 +1,16 @@
 -- What is known of the quantities of a case, step by step as they are computed.
-use Rattle.std.proofs.Common.{◌≡◌, ℕ, ◌+◌, ◌*◌, ◌^◌, ◌≤◌, Option}
-use Rattle.fraction.specs.Fraction.{Fraction, ◌⊘◌}
+use Rattle.std.proofs.Common.{◌≡◌, ◌^◌, Option}
+use Rattle.fraction.specs.Fraction.{◌⊘◌}
 use Rattle.enclosure.specs.Model.{Model, Sound}
 use Rattle.enclosure.specs.Formula.{computed}
 use Rattle.equations.specs.Design.{Design, long_modulus}
 use Rattle.equations.specs.LiveLoad.{live_modulus}
 use Rattle.equations.specs.Thrust.{live_thrust, design_thrust, least_thrust, service_thrust}
 use Rattle.equations.specs.Strains.{live_part, thrust_strain, least_strain, service_strain}
-use Rattle.equations.specs.Deflection.{deflection}
-use Rattle.quantities.specs.Known.{Known, Perhaps, maybe}
-use Rattle.quantities.specs.Formulas.{parts_of, plus_of, live_length_of, hoop_stiffness_of, arching_of, load_factor_of, length_share_of, spread_factor_of, hoop_factor_of, live_thrust_of, factored_thrust_of, thrust_of, live_part_of, resistance_of, soil_deflection_of, live_deflection_of}
+use Rattle.quantities.specs.Known.{Perhaps, maybe}
+use Rattle.quantities.specs.Formulas.{parts_of, plus_of, live_length_of, hoop_stiffness_of, load_factor_of, length_share_of, spread_factor_of, hoop_factor_of, live_thrust_of, factored_thrust_of, thrust_of, live_part_of, resistance_of, soil_deflection_of, live_deflection_of}
 use Rattle.quantities.specs.Measured.{Measured}
-use Rattle.quantities.specs.Quantities.{Prism, Water, Soil, Hoop, Arching, LoadFactor, Thrust, LengthShare, LiveThrust, LivePart, Strain, Deflects, Live as LivePressure}
+use Rattle.quantities.specs.Quantities.{Prism, Water, Soil, Hoop, Arching, LoadFactor, Thrust, LiveThrust, LivePart, Strain, Deflects, Live as LivePressure}
 use Rattle.quantities.specs.Worked.{LiveKnown}
 use Rattle.quantities.specs.declared.measures.Measures.{Measures}
 use Rattle.quantities.specs.declared.worked.Live.{Live}

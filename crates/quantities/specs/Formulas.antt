@@ -1,6 +1,6 @@
 -- The equations over any numbers, in the order in which they are computed: read in exact fractions they are the
 -- equations' own, or proved the same.
-use Rattle.std.specs.Prelude.{ℕ, ◌*◌, Some, None, Option}
+use Rattle.std.specs.Prelude.{ℕ, Some, None, Option}
 use Rattle.enclosure.specs.Formula.{Ops, wide_of}
 
 module _ {T : Type 0} (o : Ops T) where

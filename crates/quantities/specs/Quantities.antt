@@ -1,16 +1,15 @@
 -- What is known of each quantity of a design: how near its enclosure is, and the range that lawful records keep it in.
-use Rattle.std.specs.Prelude.{ℕ, ◌^◌, Option}
-use Rattle.fraction.specs.Fraction.{Fraction, ◌⊕◌, ◌⊗◌, ◌⊘◌}
+use Rattle.std.specs.Prelude.{◌^◌, Option}
+use Rattle.fraction.specs.Fraction.{Fraction}
 use Rattle.enclosure.specs.Model.{Model}
-use Rattle.equations.specs.Units.{hundredths}
-use Rattle.equations.specs.Design.{Design, inside_diameter, centroid_diameter, outside_diameter, gross_area, effective_area, wall_moment, short_modulus, long_modulus, compression_limit, tension_limit, fill_depth, water_depth, water_factor, installation_factor}
+use Rattle.equations.specs.Design.{Design, wall_moment, fill_depth}
 use Rattle.equations.specs.Pressures.{prism_pressure, water_pressure}
-use Rattle.equations.specs.LiveLoad.{live_length, live_pressure, live_width, wheel_load, wheel_width, impact, live_modulus}
+use Rattle.equations.specs.LiveLoad.{live_length, live_pressure}
 use Rattle.equations.specs.Soil.{soil_modulus}
-use Rattle.equations.specs.Thrust.{hoop_stiffness, vertical_arching, load_factor, length_share, spread_factor, hoop_factor, live_thrust, design_thrust, least_thrust, service_thrust}
-use Rattle.equations.specs.Strains.{live_part, thrust_strain, least_strain, service_strain}
-use Rattle.equations.specs.Bending.{shape_factor, farther_face, bending_factor}
-use Rattle.equations.specs.Deflection.{resistance, soil_deflection, live_deflection, deflection}
+use Rattle.equations.specs.Thrust.{hoop_stiffness, vertical_arching, load_factor, length_share, live_thrust}
+use Rattle.equations.specs.Strains.{live_part}
+use Rattle.equations.specs.Bending.{bending_factor}
+use Rattle.equations.specs.Deflection.{deflection}
 use Rattle.quantities.specs.Known.{Known, Perhaps}
 
 module _ {E : Type 0} (m : Model E) (d : Design) where

@@ -1,4 +1,6 @@
 //! The quantities of a case, in every enclosure arithmetic: each known to be near its definition.
+#![tactic(auto)]
+
 mod bend;
 mod case;
 mod cases;

@@ -1,4 +1,6 @@
 //! The five records of a book, lawful by construction, and why the console refuses.
+#![tactic(auto)]
+
 mod curve;
 mod curves;
 mod fault;

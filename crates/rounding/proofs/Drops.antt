@@ -1,5 +1,5 @@
 -- Digits cut off in stages, and the powers that do it.
-use Rattle.std.proofs.Common.{◌≡◌, ℕ, zero, suc, ◌+◌, ◌-◌, ◌*◌, ◌/◌, ◌^◌, ◌<◌, ◌≤◌, cond, Some, None, sym, refl, ap, ◌∙◌, subst, mul-le-mul_right, mul_comm, div-lt_iff_lt-mul, mul-le-mul, mul-le-mul_left, mul-pos, one-mul, pow-suc, le-div_iff_mul-le, mul-one, arith, pow-add, le-leb}
+use Rattle.std.proofs.Common.{◌≡◌, ℕ, zero, suc, ◌+◌, ◌-◌, ◌*◌, ◌/◌, ◌^◌, ◌<◌, ◌≤◌, cond, Some, None, sym, ap, ◌∙◌, subst, mul_comm, div-lt_iff_lt-mul, mul-le-mul, mul-le-mul_left, one-mul, pow-suc, le-div_iff_mul-le, arith, pow-add, le-leb}
 use native.Mathlib.Nat.{pow-le-pow_right, pow-zero}
 use borrow.Author.Tests.{lt-leb}
 use Rattle.enclosure.specs.Readings.{readable}
@@ -8,7 +8,7 @@ use Rattle.rounding.specs.Cut.{cut}
 use Rattle.rounding.specs.Rounded.{wider}
 use Rattle.rounding.specs.declared.rounding.Rounding.{Rounding}
 use Rattle.rounding.specs.declared.rounding.Rounding.TheVariants.{Down, Up}
-use Rattle.rounding.proofs.Cuts.{Cuts, cut_is, cut_cut, cut_one, cut_most}
+use Rattle.rounding.proofs.Cuts.{cut_is, cut_cut, cut_one, cut_most}
 use Rattle.rounding.proofs.Ends.{base_pos, power_pos}
 use Rattle.rounding.proofs.Scalings.{power_next}
 

@@ -1,12 +1,12 @@
 -- Ends are equal where their digits and exponents are, and so where they stand for the same.
-use Rattle.std.proofs.Common.{◌≡◌, ℕ, zero, suc, ◌+◌, ◌-◌, ◌*◌, ◌^◌, ◌<◌, ◌≤◌, min, max, sym, refl, ap, ◌∙◌, subst, mul-le-mul_right, lt_of_mul-lt-mul_right, mul-le-mul_left, mul-lt-mul_of_pos_right, mul-pos, pow-suc, lt_of_not-le, arith}
+use Rattle.std.proofs.Common.{◌≡◌, ℕ, zero, suc, ◌-◌, ◌*◌, ◌^◌, ◌<◌, ◌≤◌, min, max, sym, refl, ap, ◌∙◌, subst, mul-le-mul_right, mul-le-mul_left, mul-lt-mul_of_pos_right, pow-suc, lt_of_not-le, arith}
 use mathlib.Core.HLevel.{is_prop→PathP}
 use mathlib.Core.Logic.{dite}
 use native.Mathlib.Decide.{dec_le}
 use native.Mathlib.Nat.{ℕ_set, pow-le-pow_right, one-le-pow}
 use native.Mathlib.Bridge.{le_prop}
 use Rattle.rounding.specs.Radix.{Radix}
-use Rattle.rounding.specs.Rounded.{units, zero_end, full_end, wider}
+use Rattle.rounding.specs.Rounded.{units, zero_end, full_end}
 use Rattle.rounding.specs.declared.end.End.{End}
 
 pub radix_prop : {B S W bias : ℕ} → IsProp (Radix B S W bias)

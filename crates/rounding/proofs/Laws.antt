@@ -1,15 +1,15 @@
 -- A rounded quantity is on its side of the exact one, and near it.
-use Rattle.std.proofs.Common.{◌≡◌, ℕ, zero, suc, ◌+◌, ◌-◌, ◌*◌, ◌/◌, ◌^◌, ◌<◌, ◌≤◌, Bool, true, false, cond, Some, None, Option, sym, refl, ap, ◌∙◌, subst, le_refl, le_of_lt, mul-le-mul_right, mul_assoc, mul-le-mul_left, mul-pos, pow-suc, lt_of_not-le, mul-one, le_of_mul-le-mul_right, arith, pow-add}
+use Rattle.std.proofs.Common.{◌≡◌, ℕ, zero, suc, ◌+◌, ◌*◌, ◌^◌, ◌<◌, ◌≤◌, Some, None, Option, sym, refl, ap, ◌∙◌, subst, le_refl, le_of_lt, mul-le-mul_right, mul_assoc, mul-le-mul_left, mul-pos, pow-suc, lt_of_not-le, mul-one, le_of_mul-le-mul_right, arith, pow-add}
 use mathlib.Core.Logic.{dite}
 use native.Mathlib.Decide.{dec_le}
-use native.Mathlib.Nat.{pow-le-pow_right, pow-zero}
+use native.Mathlib.Nat.{pow-zero}
 use Rattle.rounding.specs.Radix.{Radix}
 use Rattle.rounding.specs.Cut.{cut}
 use Rattle.rounding.specs.Rounded.{surplus, rounded, units, zero_end, full_end, wider, or_zero, Ordered}
 use Rattle.rounding.specs.declared.rounding.Rounding.{Rounding}
 use Rattle.rounding.specs.declared.rounding.Rounding.TheVariants.{Down, Up}
 use Rattle.rounding.specs.declared.end.End.{End}
-use Rattle.rounding.proofs.Cuts.{cut_cut, cut_one, cut_least, cut_most, cuts}
+use Rattle.rounding.proofs.Cuts.{cut_cut, cut_least, cut_most, cuts}
 use Rattle.rounding.proofs.Ends.{base_pos, power_pos, zero_units, full_units}
 use Rattle.rounding.proofs.Rounds.{Fills, surplus_ends, rounded_full, rounded_past, rounded_slight_down, rounded_slight_up, rounded_none}
 

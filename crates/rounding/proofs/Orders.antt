@@ -1,10 +1,10 @@
 -- The ends of a result are in order where those of the operands are.
-use Rattle.std.proofs.Common.{◌≡◌, ℕ, zero, suc, ◌+◌, ◌-◌, ◌*◌, ◌^◌, ◌<◌, ◌≤◌, min, max, Bool, true, false, cond, T, eqb, leb, Some, None, Option, sym, refl, ap, ◌∙◌, subst, le_refl, mul-le-mul_right, mul-le-mul, mul-le-mul_left, mul-pos, lt_of_not-le, arith, le→leb, leb→le, eq-eqb, ne_eqb, le-leb}
+use Rattle.std.proofs.Common.{◌≡◌, ℕ, ◌-◌, ◌*◌, ◌^◌, min, max, Bool, cond, T, Some, None, Option, sym, ap, ◌∙◌, subst, le_refl, mul-le-mul_right, mul-le-mul, lt_of_not-le, arith, le→leb, leb→le, eq-eqb, ne_eqb, le-leb}
 use mathlib.Core.Logic.{dite}
 use native.Mathlib.Decide.{dec_le}
 use borrow.Author.Tests.{lt-leb}
 use Rattle.rounding.specs.Radix.{Radix}
-use Rattle.rounding.specs.Rounded.{units, rounded, divided, whole_end, zero_end, or_zero, Ordered, in_order}
+use Rattle.rounding.specs.Rounded.{units, rounded, divided, zero_end, or_zero, Ordered, in_order}
 use Rattle.rounding.specs.Pairs.{lower_whole, upper_whole, lower_sum, upper_sum, lower_product, upper_product, lower_quotient, upper_quotient, lower_excess, upper_excess, smaller_end, larger_end, smaller_upper, larger_upper}
 use Rattle.rounding.specs.declared.rounding.Rounding.TheVariants.{Down, Up}
 use Rattle.rounding.specs.declared.end.End.{End}

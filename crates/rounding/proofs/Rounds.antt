@@ -1,16 +1,16 @@
 -- What rounding an exact quantity to an end gives.
-use Rattle.std.proofs.Common.{◌≡◌, ℕ, zero, suc, ◌+◌, ◌-◌, ◌*◌, ◌/◌, ◌^◌, ◌<◌, ◌≤◌, Bool, true, false, cond, eqb, ltb, Some, None, Option, sym, refl, ap, ◌∙◌, subst, le_refl, mul-le-mul_right, mul_assoc, mul_comm, mul-le-mul_left, mul-pos, pow-suc, lt_of_not-le, mul-one, arith, le-ltb, lt-ltb, eq-eqb, ne_eqb, le-leb}
+use Rattle.std.proofs.Common.{◌≡◌, ℕ, zero, suc, ◌+◌, ◌-◌, ◌*◌, ◌^◌, ◌<◌, ◌≤◌, cond, ltb, Some, None, Option, sym, refl, ap, ◌∙◌, subst, le_refl, mul_assoc, mul_comm, mul-le-mul_left, mul-pos, pow-suc, lt_of_not-le, mul-one, arith, le-ltb, lt-ltb, eq-eqb, ne_eqb, le-leb}
 use mathlib.Core.Logic.{dite}
 use native.Mathlib.Decide.{dec_le}
 use native.Mathlib.Nat.{pow-le-pow_right, pow-zero, one-le-pow}
 use Rattle.rounding.specs.Radix.{Radix}
 use Rattle.rounding.specs.Cut.{cut}
 use Rattle.rounding.specs.Placed.{Stands}
-use Rattle.rounding.specs.Rounded.{surplus, slight, rounded, whole_end, units, zero_end, full_end, wider}
+use Rattle.rounding.specs.Rounded.{surplus, slight, rounded, whole_end, zero_end, full_end, wider}
 use Rattle.rounding.specs.declared.rounding.Rounding.{Rounding}
 use Rattle.rounding.specs.declared.rounding.Rounding.TheVariants.{Down, Up}
 use Rattle.rounding.specs.declared.end.End.{End}
-use Rattle.rounding.proofs.Cuts.{cut_cut, cut_one, cut_least, cut_most, cut_below, cut_some, cuts}
+use Rattle.rounding.proofs.Cuts.{cut_cut, cut_one, cut_least, cut_most, cut_below, cut_some}
 use Rattle.rounding.proofs.Ends.{base_pos, power_pos}
 
 module _ (t : Rounding) (B L : ℕ) (b : 2 ≤ B) (l : 2 ≤ L) where

@@ -1,5 +1,5 @@
 -- A quantity P / Q at one exponent, counted from another.
-use Rattle.std.proofs.Common.{◌≡◌, ℕ, zero, suc, ◌+◌, ◌-◌, ◌*◌, ◌^◌, ◌<◌, ◌≤◌, cond, None, sym, refl, ap, ◌∙◌, subst, le_of_lt, mul-le-mul_right, mul-le-mul, le_antisymm, lt_of_mul-lt-mul_right, mul-le-mul_left, mul-lt-mul_of_pos_right, mul-pos, pow-suc, le_of_mul-le-mul_right, arith, pow-add, ne_eqb}
+use Rattle.std.proofs.Common.{◌≡◌, ℕ, zero, suc, ◌+◌, ◌-◌, ◌*◌, ◌^◌, ◌<◌, ◌≤◌, cond, None, sym, ap, ◌∙◌, subst, le_of_lt, mul-le-mul_right, mul-le-mul, le_antisymm, lt_of_mul-lt-mul_right, mul-le-mul_left, mul-lt-mul_of_pos_right, mul-pos, pow-suc, le_of_mul-le-mul_right, arith, pow-add, ne_eqb}
 use native.Mathlib.Nat.{pow-le-pow_right, pow-zero}
 use Rattle.rounding.specs.Radix.{Radix}
 use Rattle.rounding.specs.Cut.{cut}

@@ -1,5 +1,5 @@
 -- Sums, differences and whole numbers, as digits at an exponent.
-use Rattle.std.proofs.Common.{◌≡◌, ℕ, zero, suc, ◌+◌, ◌-◌, ◌*◌, ◌^◌, ◌<◌, ◌≤◌, sym, refl, ap, ◌∙◌, subst, le_of_lt, mul-le-mul_right, mul-le-mul, mul-le-mul_left, mul-pos, one-mul, pow-suc, lt_of_not-le, arith, pow-add}
+use Rattle.std.proofs.Common.{◌≡◌, ℕ, zero, suc, ◌+◌, ◌-◌, ◌*◌, ◌^◌, ◌<◌, ◌≤◌, sym, refl, ap, ◌∙◌, subst, le_of_lt, mul-le-mul_right, mul-le-mul, mul-le-mul_left, one-mul, pow-suc, lt_of_not-le, arith, pow-add}
 use mathlib.Core.Logic.{dite}
 use native.Mathlib.Decide.{dec_le}
 use native.Mathlib.Nat.{pow-le-pow_right, pow-zero}

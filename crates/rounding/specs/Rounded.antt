@@ -1,5 +1,5 @@
 -- The nearest end below or above an exact quantity.
-use Rattle.std.specs.Prelude.{◌≡◌, ℕ, zero, suc, ◌+◌, ◌-◌, ◌*◌, ◌/◌, ◌^◌, ◌<◌, ◌≤◌, min, max, Bool, true, cond, Some, None, Option, ◌==◌, nat_le, nat_lt}
+use Rattle.std.specs.Prelude.{ℕ, zero, suc, ◌-◌, ◌*◌, ◌^◌, ◌≤◌, min, max, Bool, true, cond, Some, None, Option, ◌==◌, nat_le, nat_lt}
 use Rattle.std.proofs.Common.{mul-le-mul_left, arith}
 use Rattle.rounding.specs.Radix.{Radix}
 use Rattle.rounding.specs.Cut.{cut}

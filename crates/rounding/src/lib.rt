@@ -1,4 +1,6 @@
 //! The ends of enclosures: few digits at an exponent, with every result rounded down or up from the exact one.
+#![tactic(auto)]
+
 mod end;
 mod rounding;
 

@@ -1,5 +1,5 @@
 -- The case of the records at five places.
-use Rattle.std.proofs.Common.{◌≡◌, true, false, ◌&&◌, leb, IfOk, Some, None, Ok, Err, Option, Result, sym, refl, subst}
+use Rattle.std.proofs.Common.{◌≡◌, true, false, ◌&&◌, leb, IfOk, Some, None, Ok, Err, Option, Result, refl, subst}
 use Rattle.std.proofs.lemmas.Bool.{true≢false}
 use Rattle.book.specs.Register.{Register, standing}
 use Rattle.book.proofs.Rows.{neither}

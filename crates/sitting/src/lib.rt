@@ -1,4 +1,6 @@
 //! A sitting: a book that is only read, with the tallies of the marks written since it was opened.
+#![tactic(auto)]
+
 mod cases;
 mod claims;
 mod questions;

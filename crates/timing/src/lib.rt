@@ -1,4 +1,6 @@
 //! Loops for the benchmarks to time: each turn is two operations, eight of `whole`, or one judgement.
+#![tactic(auto)]
+
 use digits::{Binary, Decimal};
 use enclosure::{Arithmetic, ReadOut};
 use judging::{Verdict, judge};

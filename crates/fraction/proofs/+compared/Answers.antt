@@ -1,4 +1,4 @@
-use Rattle.std.proofs.Common.{◌≡◌, ◌*◌, ◌%◌, ◌<◌, sym, ap, ◌∙◌, mul_comm, mul-pos, arith}
+use Rattle.std.proofs.Common.{◌*◌, ◌%◌, ◌<◌, ap, ◌∙◌, mul-pos, arith}
 use borrow.Author.Tests.{le-true, lt-false}
 use Rattle.fraction.proofs.Ratios.{less, more, level, same_test, apart_test}
 use Rattle.fraction.proofs.+compared.Goals as goal

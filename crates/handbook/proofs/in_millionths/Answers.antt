@@ -1,12 +1,9 @@
-use Rattle.std.proofs.Common.{◌≡◌, ℕ, ◌^◌, ◌<◌, sym, ap, ◌∙◌, subst, arith, lit≤, rules}
-use Rattle.fraction.specs.Fraction.{Fraction, whole, ◌⊗◌, ◌⊘◌}
+use Rattle.std.proofs.Common.{◌≡◌, ◌^◌, ◌<◌, sym, subst, rules}
+use Rattle.fraction.specs.Fraction.{whole, ◌⊗◌}
 use Rattle.fraction.specs.Ratio.{value}
-use Rattle.fraction.proofs.Sames as same
-use Rattle.enclosure.specs.Model.{Model, Sound, Encloses}
+use Rattle.enclosure.specs.Model.{Encloses}
 use Rattle.enclosure.specs.Formula.{computed, wide_of}
-use Rattle.enclosure.specs.Readings.{read_below, read_above, Under, Over}
-use Rattle.enclosure.proofs.Closeness.{encloses_along}
-use Rattle.enclosure.proofs.WideNumbers.{wide_in}
+use Rattle.enclosure.specs.Readings.{Under, Over}
 use Rattle.enclosure.proofs.ReadOuts.{readings_bound}
 use Rattle.handbook.proofs.Millionths.{enclosed}
 use Rattle.handbook.proofs.in_millionths.Goals as goal

@@ -1,4 +1,4 @@
-use Rattle.std.proofs.Common.{◌≡◌, sym, ap, ◌∙◌}
+use Rattle.std.proofs.Common.{sym, ap, ◌∙◌}
 use Rattle.rounding.specs.Pairs.{lower_excess}
 use Rattle.rounding.specs.Rounded.{or_zero}
 use Rattle.rounding.specs.declared.rounding.Rounding.TheVariants.{Down}

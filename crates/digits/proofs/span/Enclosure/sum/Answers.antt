@@ -1,5 +1,4 @@
-use Rattle.std.proofs.Common.{◌≡◌, sym, ap, ◌∙◌, lit<}
-use Rattle.rounding.specs.Radix.{Radix}
+use Rattle.std.proofs.Common.{ap, ◌∙◌, lit<}
 use Rattle.rounding.specs.Rounded.{or_zero}
 use Rattle.rounding.specs.declared.rounding.Rounding.TheVariants.{Down}
 use Rattle.rounding.proofs.Orders.{sum_ordered}

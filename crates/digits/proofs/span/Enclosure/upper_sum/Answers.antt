@@ -1,4 +1,4 @@
-use Rattle.std.proofs.Common.{◌≡◌, Some, sym, ap, ◌∙◌}
+use Rattle.std.proofs.Common.{Some, sym, ap, ◌∙◌}
 use Rattle.rounding.specs.Pairs.{upper_sum}
 use Rattle.rounding.specs.declared.rounding.Rounding.TheVariants.{Up}
 use Rattle.digits.proofs.Spans.{rounded_any}

@@ -1,5 +1,5 @@
 use Rattle.quantities.specs.Case.{design_of}
-use Rattle.quantities.specs.Quantities.{Prism, Arching, Hoop, LoadFactor, LivePart, Strain}
+use Rattle.quantities.specs.Quantities.{Prism, Arching, Hoop, LoadFactor}
 use Rattle.quantities.proofs.Known.{known_at}
 use Rattle.quantities.proofs.Pressing.{prism_known}
 use Rattle.quantities.proofs.Quantities.{arching_known}

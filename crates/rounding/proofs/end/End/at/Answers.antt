@@ -1,4 +1,4 @@
-use Rattle.std.proofs.Common.{Some, sym, refl, ap, ◌∙◌, arith}
+use Rattle.std.proofs.Common.{Some, sym, refl, ap, ◌∙◌}
 use Rattle.rounding.proofs.Ends.{is_full}
 use Rattle.rounding.proofs.Rounds.{stands_full, stands_past}
 use Rattle.rounding.proofs.end.End.at.Goals as goal

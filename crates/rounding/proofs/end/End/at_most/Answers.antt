@@ -1,4 +1,4 @@
-use Rattle.std.proofs.Common.{◌≡◌, ◌<◌, sym, ◌∙◌, lt_of_not-le, arith, le-ltb, lt-ltb, le-leb}
+use Rattle.std.proofs.Common.{◌<◌, sym, ◌∙◌, lt_of_not-le, arith, le-ltb, lt-ltb, le-leb}
 use mathlib.Core.Logic.{dite}
 use native.Mathlib.Decide.{dec_le}
 use borrow.Author.Tests.{lt-leb}

@@ -1,6 +1,6 @@
-use Rattle.std.proofs.Common.{◌≡◌, ℕ, ◌+◌, ◌-◌, ◌*◌, ◌^◌, ◌<◌, ◌≤◌, cond, Some, None, sym, refl, ap, ◌∙◌, subst, le_of_lt, add_assoc, mul-le-mul_right, mul-le-mul_left, mul-lt-mul_of_pos_right, mul-pos, arith, rules, ne_eqb}
+use Rattle.std.proofs.Common.{◌≡◌, ℕ, ◌+◌, ◌*◌, ◌^◌, ◌<◌, ◌≤◌, Some, sym, ap, ◌∙◌, subst, le_of_lt, add_assoc, mul-pos, arith, rules}
 use Rattle.rounding.specs.Placed.{Scales}
-use Rattle.rounding.specs.Rounded.{units, rounded, divided}
+use Rattle.rounding.specs.Rounded.{units}
 use Rattle.rounding.proofs.Cuts.{cut_least, cut_most}
 use Rattle.rounding.proofs.Ends.{power_pos}
 use Rattle.rounding.proofs.Rounds.{rounded_none}

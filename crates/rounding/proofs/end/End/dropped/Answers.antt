@@ -1,6 +1,5 @@
-use Rattle.std.proofs.Common.{◌≡◌, ℕ, ◌+◌, ◌-◌, ◌*◌, ◌^◌, ◌<◌, ◌≤◌, sym, ap, ◌∙◌, subst, arith, rules}
+use Rattle.std.proofs.Common.{◌≡◌, ◌^◌, sym, ap, ◌∙◌, arith, rules}
 use Rattle.rounding.specs.Cut.{cut}
-use Rattle.rounding.specs.Rounded.{wider}
 use Rattle.rounding.proofs.Drops.{powers, base_power, cut_all, cut_none}
 use Rattle.rounding.proofs.end.End.dropped.Goals as goal
 

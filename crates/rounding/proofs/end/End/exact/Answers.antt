@@ -1,4 +1,4 @@
-use Rattle.std.proofs.Common.{◌≡◌, ℕ, suc, ◌+◌, ◌-◌, ◌*◌, ◌^◌, ◌<◌, ◌≤◌, sym, ap, ◌∙◌, mul-pos, arith}
+use Rattle.std.proofs.Common.{◌≡◌, ◌*◌, ◌^◌, sym, ap, ◌∙◌, mul-pos, arith}
 use native.Mathlib.Nat.{pow-zero}
 use Rattle.rounding.proofs.Ends.{power_pos}
 use Rattle.rounding.proofs.Sums.{exact_stands}

@@ -1,9 +1,9 @@
-use Rattle.std.proofs.Common.{◌≡◌, ℕ, ◌+◌, ◌-◌, ◌*◌, ◌^◌, ◌<◌, ◌≤◌, false, leb, Some, sym, refl, ap, ◌∙◌, subst, mul-le-mul_right, mul-le-mul_left, arith, rules, leb-false, leb-true}
+use Rattle.std.proofs.Common.{◌≡◌, ℕ, ◌-◌, ◌*◌, ◌^◌, ◌<◌, ◌≤◌, false, leb, Some, sym, refl, ap, ◌∙◌, subst, mul-le-mul_right, mul-le-mul_left, arith, rules, leb-false, leb-true}
 use Rattle.rounding.specs.Placed.{Stands}
 use Rattle.rounding.specs.declared.rounding.Rounding.{Rounding}
 use Rattle.rounding.specs.declared.end.End.{End}
 use Rattle.rounding.specs.Cut.{cut, turned}
-use Rattle.rounding.specs.Rounded.{rounded, units, wider}
+use Rattle.rounding.specs.Rounded.{units}
 use Rattle.rounding.proofs.Rounds.{rounded_none}
 use Rattle.rounding.proofs.Sums.{not_below, level_difference, next_difference, far_digits, far_stands}
 use Rattle.rounding.proofs.end.End.excess.Goals as goal

@@ -1,4 +1,4 @@
-use Rattle.std.proofs.Common.{◌≡◌, ℕ, suc, ◌+◌, ◌*◌, ◌/◌, ◌^◌, ◌<◌, ◌≤◌, sym, ap, ◌∙◌, mul-one, arith, rules}
+use Rattle.std.proofs.Common.{◌≡◌, ◌*◌, ◌^◌, sym, ap, ◌∙◌, mul-one, arith}
 use native.Mathlib.Nat.{pow-zero}
 use Rattle.enclosure.specs.Readings.{readable}
 use Rattle.rounding.proofs.Ends.{base_pos}

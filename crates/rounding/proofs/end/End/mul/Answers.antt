@@ -1,4 +1,4 @@
-use Rattle.std.proofs.Common.{◌≡◌, ℕ, ◌+◌, ◌-◌, ◌*◌, ◌^◌, ◌<◌, ◌≤◌, Some, sym, refl, ap, ◌∙◌, subst, le_of_lt, add_assoc, mul-le-mul_left, arith, rules}
+use Rattle.std.proofs.Common.{ℕ, ◌+◌, ◌*◌, ◌^◌, ◌<◌, ◌≤◌, Some, sym, ap, ◌∙◌, subst, le_of_lt, add_assoc, mul-le-mul_left, arith, rules}
 use Rattle.rounding.specs.Placed.{Scales}
 use Rattle.rounding.specs.Rounded.{wider}
 use Rattle.rounding.proofs.Cuts.{cut_least, cut_most}

@@ -1,4 +1,4 @@
-use Rattle.std.proofs.Common.{ℕ, ◌+◌, ◌-◌, ◌*◌, ◌<◌, ◌≤◌, sym, ap, ◌∙◌, subst, arith, rules}
+use Rattle.std.proofs.Common.{ℕ, ◌+◌, ◌-◌, ◌*◌, ◌<◌, ◌≤◌, sym, subst, arith, rules}
 use Rattle.rounding.specs.Placed.{Stands}
 use Rattle.rounding.proofs.Cuts.{cut_least, cut_most}
 use Rattle.rounding.proofs.Rounds.{stands_carried}

@@ -1,4 +1,4 @@
-use Rattle.std.proofs.Common.{◌≡◌, ℕ, suc, ◌+◌, ◌-◌, ◌*◌, ◌^◌, ◌<◌, ◌≤◌, sym, ap, ◌∙◌, mul-le-mul_left, mul-lt-mul_of_pos_right, arith}
+use Rattle.std.proofs.Common.{◌-◌, ◌*◌, ◌<◌, ap, mul-le-mul_left, mul-lt-mul_of_pos_right, arith}
 use Rattle.rounding.specs.Rounded.{wider}
 use Rattle.rounding.proofs.Drops.{less_power}
 use Rattle.rounding.proofs.end.End.raised.Goals as goal

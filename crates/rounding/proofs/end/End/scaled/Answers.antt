@@ -1,4 +1,4 @@
-use Rattle.std.proofs.Common.{◌+◌, ◌-◌, ◌*◌, ◌<◌, ◌≤◌, mul-le-mul_left, arith, rules}
+use Rattle.std.proofs.Common.{◌-◌, ◌*◌, ◌≤◌, mul-le-mul_left, arith, rules}
 use Rattle.rounding.specs.Rounded.{wider}
 use Rattle.rounding.proofs.Scalings.{scales_some, scales_slight, scales_stands}
 use Rattle.rounding.proofs.end.End.scaled.Goals as goal

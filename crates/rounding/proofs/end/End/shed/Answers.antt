@@ -1,4 +1,4 @@
-use Rattle.std.proofs.Common.{◌≡◌, ℕ, suc, ◌+◌, ◌-◌, ◌*◌, ◌^◌, ◌<◌, ◌≤◌, sym, ap, ◌∙◌, subst, arith, below_more}
+use Rattle.std.proofs.Common.{ℕ, ◌*◌, ◌≤◌, sym, ◌∙◌, subst, arith, below_more}
 use Rattle.rounding.specs.Rounded.{wider}
 use Rattle.rounding.proofs.Cuts.{cut_least}
 use Rattle.rounding.proofs.Ends.{base_pos}

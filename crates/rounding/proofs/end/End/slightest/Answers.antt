@@ -1,6 +1,5 @@
-use Rattle.std.proofs.Common.{◌≡◌, ◌<◌, ◌≤◌, Some, sym, refl, ap, ◌∙◌, subst, le_refl, le_of_lt, arith}
+use Rattle.std.proofs.Common.{Some, sym, refl, ap, ◌∙◌, le_refl, le_of_lt, arith}
 use Rattle.rounding.specs.Rounded.{wider, rounded}
-use Rattle.rounding.specs.declared.rounding.Rounding.{Rounding}
 use Rattle.rounding.proofs.Ends.{is_full}
 use Rattle.rounding.proofs.Rounds.{rounded_slight_down, rounded_slight_up}
 use Rattle.rounding.proofs.end.End.slightest.Goals as goal

@@ -1,4 +1,4 @@
-use Rattle.std.proofs.Common.{◌≡◌, ℕ, ◌-◌, ◌^◌, ◌<◌, sym, ap, ◌∙◌, subst, arith}
+use Rattle.std.proofs.Common.{ℕ, ◌-◌, ◌^◌, ◌<◌, sym, ap, ◌∙◌, subst, arith}
 use Rattle.rounding.specs.Cut.{cut}
 use Rattle.rounding.proofs.Ends.{power_pos}
 use Rattle.rounding.proofs.Drops.{cut_stage, cut_less}

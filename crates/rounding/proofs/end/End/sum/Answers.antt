@@ -1,6 +1,5 @@
-use Rattle.std.proofs.Common.{◌≡◌, ℕ, ◌+◌, ◌-◌, ◌*◌, ◌^◌, ◌<◌, ◌≤◌, Some, sym, ap, ◌∙◌, subst, mul-le-mul_left, arith, rules}
+use Rattle.std.proofs.Common.{◌≡◌, ◌+◌, ◌-◌, ◌*◌, ◌^◌, ◌≤◌, Some, sym, ap, ◌∙◌, mul-le-mul_left, arith, rules}
 use Rattle.rounding.specs.Cut.{cut}
-use Rattle.rounding.specs.Rounded.{wider}
 use Rattle.rounding.proofs.Rounds.{rounded_none}
 use Rattle.rounding.proofs.Sums.{sum_full, sum_none, sum_stands, rest_few}
 use Rattle.rounding.proofs.end.End.sum.Goals as goal

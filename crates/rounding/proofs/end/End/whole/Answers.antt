@@ -1,5 +1,5 @@
-use Rattle.std.proofs.Common.{◌≡◌, ℕ, ◌+◌, ◌-◌, ◌*◌, ◌^◌, ◌<◌, ◌≤◌, cond, Some, None, sym, refl, ap, ◌∙◌, subst, mul-le-mul_left, zero-mul, arith, rules, le-leb}
-use Rattle.rounding.specs.Rounded.{rounded, wider}
+use Rattle.std.proofs.Common.{◌-◌, ◌*◌, ◌^◌, ◌<◌, ◌≤◌, Some, sym, ap, ◌∙◌, mul-le-mul_left, zero-mul, arith, rules}
+use Rattle.rounding.specs.Rounded.{wider}
 use Rattle.rounding.proofs.Rounds.{rounded_none, whole_within}
 use Rattle.rounding.proofs.Sums.{whole_stands}
 use Rattle.rounding.proofs.end.End.whole.Goals as goal

@@ -1,4 +1,4 @@
-use Rattle.std.proofs.Common.{◌≡◌, ℕ, ◌+◌, ◌-◌, ◌*◌, ◌^◌, ◌<◌, ◌≤◌, Some, sym, ap, ◌∙◌, arith}
+use Rattle.std.proofs.Common.{◌-◌, sym, ap, ◌∙◌, arith}
 use Rattle.enclosure.specs.Readings.{readable}
 use Rattle.rounding.proofs.Drops.{grown_within}
 use Rattle.rounding.proofs.Sums.{cut_lower, cut_raised, rest_few}

@@ -1,4 +1,4 @@
-use Rattle.std.proofs.Common.{◌≡◌, length, refl, arith}
+use Rattle.std.proofs.Common.{length, refl, arith}
 use Rattle.quantities.specs.Case.{design_of}
 use Rattle.sitting.specs.Sittings.{held}
 use Rattle.sitting.proofs.Counting.{few_claims, room_left, all_earned, unrefused_marking}

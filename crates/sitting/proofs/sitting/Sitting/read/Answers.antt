@@ -1,4 +1,4 @@
-use Rattle.std.proofs.Common.{◌≡◌, ℕ, sym, ◌∙◌, subst}
+use Rattle.std.proofs.Common.{ℕ, sym, ◌∙◌, subst}
 use Rattle.equations.specs.Figures.{figure_millionths}
 use Rattle.judging.specs.Judged.{ReadOutOf}
 use Rattle.judging.proofs.ClaimLists.{figure_found, no_figure}
