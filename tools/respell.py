@@ -1,12 +1,13 @@
 #!/usr/bin/env python3
 """Respells this repository's own definitions and lemmas as today's Rattle spells them.
 
-usage: python3 tools/respell.py        at the top of the repository, once
+usage: python3 tools/respell.py        at the top of the repository, once, after the kit's port.py
 
 Words are in snake case and types in upper camel case: a name that specs/ or proofs/ define with dashes gets underscores,
 or, if it begins with a capital or stands for a type, upper camel case. Every place that cites it follows: specs/,
-proofs/, the clauses of src/, the must-fail edits, and names between backquotes in README.md and docs/. Comments, strings,
-functions of src/, and names that Rattle makes stay as they are. It stops where two names would fall together.
+proofs/, the clauses of src/, the must-fail edits, and names between backquotes in README.md and docs/. Comments and strings
+stay; so do names of src/, which have no dashes, and the answers in proofs/ to goals that Rattle names. It stops where two
+definitions would fall together; a definition may come to share its name with a field of a struct.
 """
 import os
 import re

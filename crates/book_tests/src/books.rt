@@ -1,7 +1,6 @@
 use book::{Book, Kind};
 use records::Fault;
 use std::process::Abort;
-use std::test::Fail;
 
 const SECTION: [u64; 11] = [
     36_000, 38_500, 41_000, 6_500, 5_400, 1_520_000, 175_000, 28_000, 370, 250, 4_000,
@@ -32,42 +31,38 @@ fn fill_at(book: &Book, place: u64) -> Option<u64> {
     }
 }
 
-fn replaces(rt: &impl Abort, book: &mut Book) -> Result<(), Fail> {
+fn replaces(rt: &impl Abort, book: &mut Book) {
     assert_eq!(rt; told(book.enter(Kind::Site, 96, &SHALLOW)), (0, 0));
     assert_eq!(rt; fill_at(book, 96), Some(180_000));
     assert_eq!(rt; told(book.enter(Kind::Site, 96, &DEEP)), (0, 0));
     assert_eq!(rt; fill_at(book, 96), Some(480_000));
     assert_eq!(rt; fill_at(book, 95), None);
-    Ok(())
 }
 
 #[test]
-fn an_entry_replaces(rt: HostRuntime) -> Result<(), Fail> {
+fn an_entry_replaces(rt: HostRuntime) {
     let mut book = Book::new();
-    let answer = replaces(&rt, &mut book);
+    replaces(&rt, &mut book);
     book.discard();
-    answer
 }
 
-fn empties(rt: &impl Abort, book: &mut Book) -> Result<(), Fail> {
+fn empties(rt: &impl Abort, book: &mut Book) {
     assert_eq!(rt; told(book.enter(Kind::Site, 1, &SHALLOW)), (0, 0));
     assert_eq!(rt; told(book.enter(Kind::Site, 2, &DEEP)), (0, 0));
     assert_eq!(rt; told(book.withdraw(5, 1)), (0, 0));
     assert_eq!(rt; fill_at(book, 1), None);
     assert_eq!(rt; fill_at(book, 2), Some(480_000));
     assert_eq!(rt; told(book.withdraw(5, 1)), (5, 2));
-    Ok(())
 }
 
 #[test]
-fn a_withdrawal_empties(rt: HostRuntime) -> Result<(), Fail> {
+fn a_withdrawal_empties(rt: HostRuntime) {
     let mut book = Book::new();
-    let answer = empties(&rt, &mut book);
+    empties(&rt, &mut book);
     book.discard();
-    answer
 }
 
-fn refuses(rt: &impl Abort, book: &mut Book) -> Result<(), Fail> {
+fn refuses(rt: &impl Abort, book: &mut Book) {
     assert_eq!(rt; told(book.enter(Kind::Site, 1, &SHALLOW)), (0, 0));
     assert_eq!(rt; told(book.enter(Kind::Site, 0, &DEEP)), (1, 1));
     assert_eq!(rt; told(book.enter(Kind::Site, 97, &DEEP)), (1, 1));
@@ -79,15 +74,13 @@ fn refuses(rt: &impl Abort, book: &mut Book) -> Result<(), Fail> {
     assert_eq!(rt; told(book.withdraw(5, 97)), (1, 2));
     assert_eq!(rt; told(book.withdraw(1, 1)), (5, 2));
     assert_eq!(rt; fill_at(book, 1), Some(180_000));
-    Ok(())
 }
 
 #[test]
-fn a_refusal_changes_nothing(rt: HostRuntime) -> Result<(), Fail> {
+fn a_refusal_changes_nothing(rt: HostRuntime) {
     let mut book = Book::new();
-    let answer = refuses(&rt, &mut book);
+    refuses(&rt, &mut book);
     book.discard();
-    answer
 }
 
 // Which kinds have a record at the place.
@@ -101,7 +94,7 @@ fn standing(book: &Book, place: u64) -> [bool; 5] {
     ]
 }
 
-fn holds_all(rt: &impl Abort, book: &mut Book) -> Result<(), Fail> {
+fn holds_all(rt: &impl Abort, book: &mut Book) {
     assert_eq!(rt; standing(book, 4), [false, false, false, false, false]);
     assert_eq!(rt; told(book.enter(Kind::Section, 4, &SECTION)), (0, 0));
     assert_eq!(rt; told(book.enter(Kind::Embedment, 4, &EMBEDMENT)), (0, 0));
@@ -111,13 +104,11 @@ fn holds_all(rt: &impl Abort, book: &mut Book) -> Result<(), Fail> {
     assert_eq!(rt; standing(book, 4), [true, true, true, true, true]);
     assert_eq!(rt; told(book.withdraw(3, 4)), (0, 0));
     assert_eq!(rt; standing(book, 4), [true, true, false, true, true]);
-    Ok(())
 }
 
 #[test]
-fn kinds_stand_side_by_side(rt: HostRuntime) -> Result<(), Fail> {
+fn kinds_stand_side_by_side(rt: HostRuntime) {
     let mut book = Book::new();
-    let answer = holds_all(&rt, &mut book);
+    holds_all(&rt, &mut book);
     book.discard();
-    answer
 }

@@ -23,7 +23,7 @@ pub trait Arithmetic: Copy {
 
     ghost model: { Model Self };
 
-    /// The fineness, for clauses: an associated constant has no name there.
+    /// The fineness, as the model has it.
     fn stated_fineness() -> u64
         ensures { result ≡ model.fineness };
 

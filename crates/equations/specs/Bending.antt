@@ -1,5 +1,5 @@
 -- How far the wall bends with the pipe's deflection.
-use Rattle.std.specs.Prelude.{cond, eqb}
+use Rattle.std.specs.Prelude.{cond, ◌==◌}
 use Rattle.fraction.specs.Fraction.{Fraction, whole, ◌⊗◌, ◌⊘◌, ◌⊖◌, ◌⊔◌}
 use Rattle.lookups.specs.Lookup.{shape_at}
 use Rattle.equations.specs.Units.{hundredths, thousandths, cubed}
@@ -12,7 +12,7 @@ computed_stiffness d = short_modulus d ⊗ wall_moment d ⊘ (thousandths 149 �
 
 -- PS, psi: pipe stiffness, as the section gives it, or computed where it gives 0
 unfoldable pub pipe_stiffness : Design → Fraction
-pipe_stiffness d = cond (eqb d.section.stiffness 0) (computed_stiffness d) (hundredths d.section.stiffness)
+pipe_stiffness d = cond (d.section.stiffness == 0) (computed_stiffness d) (hundredths d.section.stiffness)
 
 -- Df: shape factor at the pipe stiffness
 unfoldable pub shape_factor : Design → Fraction

@@ -1,5 +1,5 @@
 -- The eight figures that an answer may be asked for, by number.
-use Rattle.std.specs.Prelude.{List, [], ◌∷◌, ℕ, ◌-◌, get_or}
+use Rattle.std.specs.Prelude.{List, [], ◌∷◌, ℕ, ◌-◌, slice_index_or}
 use Rattle.fraction.specs.Fraction.{Fraction, whole, ◌⊗◌}
 use Rattle.equations.specs.Design.{Design}
 use Rattle.equations.specs.Pressures.{prism_pressure}
@@ -16,7 +16,7 @@ figures d =
 
 -- the k-th, from 1
 abbrev pub figure : ℕ → Design → Fraction
-figure k d = get_or (figures d) (k - 1) (whole 0)
+figure k d = slice_index_or (figures d) (k - 1) (whole 0)
 
 -- in millionths
 abbrev pub figure_millionths : ℕ → Design → Fraction

@@ -1,5 +1,5 @@
 -- The seven limit states: each asks that its left side is at most its right side.
-use Rattle.std.specs.Prelude.{Bool, not, List, [], ◌∷◌, ℕ, ◌-◌, eqb, get_or}
+use Rattle.std.specs.Prelude.{Bool, not, List, [], ◌∷◌, ℕ, ◌-◌, ◌==◌, slice_index_or}
 use Rattle.fraction.specs.Fraction.{Fraction, whole, ◌⊕◌, ◌⊗◌, ◌⊘◌}
 use Rattle.equations.specs.Units.{tenths, hundredths, thousandths, squared, cubed}
 use Rattle.equations.specs.Design.{Design, inside_diameter, centroid_diameter, outside_diameter, effective_area, wall_moment, short_modulus, long_modulus, compression_limit, tension_limit, fill_depth}
@@ -55,11 +55,11 @@ rights d =
 
 -- the sides of the k-th, from 1
 abbrev pub left : ℕ → Design → Fraction
-left k d = get_or (lefts d) (k - 1) (whole 0)
+left k d = slice_index_or (lefts d) (k - 1) (whole 0)
 
 abbrev pub right : ℕ → Design → Fraction
-right k d = get_or (rights d) (k - 1) (whole 0)
+right k d = slice_index_or (rights d) (k - 1) (whole 0)
 
 -- buoyancy is asked where there is water
 abbrev pub buoyant : Design → Bool
-buoyant d = not (eqb d.site.water 0)
+buoyant d = not (d.site.water == 0)

@@ -1,5 +1,5 @@
 -- The forms in which a computation takes quantities, so that each difference and each decision is one of whole numbers.
-use Rattle.std.specs.Prelude.{◌≡◌, cond, ◌&&◌, ◌||◌, ℕ, ◌+◌, ◌-◌, ◌*◌, ◌≤◌, max, leb, ltb}
+use Rattle.std.specs.Prelude.{◌≡◌, cond, ◌&&◌, ◌||◌, ℕ, ◌+◌, ◌-◌, ◌*◌, ◌≤◌, max, nat_le, nat_lt}
 use Rattle.fraction.specs.Fraction.{Fraction, whole, ◌⊕◌, ◌⊗◌, ◌⊘◌, Same}
 use Rattle.fraction.specs.Ratio.{at_most}
 use Rattle.equations.specs.Units.{tenths, hundredths, thousandths, ten_thousandths}
@@ -24,7 +24,7 @@ wet_units h o t g s = 100 * (2 * h - t) * g + (100 * t + 22 * o) * (s - 624)
 
 abbrev pub prism_units : Design → ℕ
 prism_units d =
-    cond (leb (2 * d.site.water) d.section.outside)
+    cond (nat_le (2 * d.site.water) d.section.outside)
     (dry_units d.site.fill d.section.outside d.site.moist_weight)
     (wet_units d.site.fill d.section.outside (2 * d.site.water - d.section.outside) d.site.moist_weight d.site.saturated_weight)
 
@@ -54,9 +54,9 @@ pub record Regroups (d : Design) : Type 0 where
   pub depth : Same (tenths 114 ⊘ (whole 11 ⊕ centroid_diameter d ⊘ fill_depth d)) (tenths 114 ⊗ fill_depth d ⊘ (whole 11 ⊗ fill_depth d ⊕ centroid_diameter d))
   pub ring : Same (whole (stiffness_units d) ⊘ whole (100 * (149 * centroid_cube d))) (computed_stiffness d)
   pub face : Same (thousandths (face_units d)) (farther_face d)
-  pub pair : wheels_pair d ≡ leb 5200000 (wheel_units d)
-  pub shallow : at_most (fill_depth d) (whole 96) ≡ leb d.site.fill 96000
-  pub full : fully_supported d ≡ (leb (3 * d.section.outside) d.site.trench || (ltb d.site.fill 120000 && d.site.stable_walls))
+  pub pair : wheels_pair d ≡ nat_le 5200000 (wheel_units d)
+  pub shallow : at_most (fill_depth d) (whole 96) ≡ nat_le d.site.fill 96000
+  pub full : fully_supported d ≡ (nat_le (3 * d.section.outside) d.site.trench || (nat_lt d.site.fill 120000 && d.site.stable_walls))
 
 abbrev pub AllRegroup : Type 0
 AllRegroup = (d : Design) → Regroups d

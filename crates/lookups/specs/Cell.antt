@@ -1,5 +1,5 @@
 -- What the search for a cell promises.
-use Rattle.std.specs.Prelude.{List, ◌≡◌, ℕ, ◌+◌, ◌*◌, ◌≤◌, ◌<◌, max, length, get_or}
+use Rattle.std.specs.Prelude.{List, ◌≡◌, ℕ, ◌+◌, ◌*◌, ◌≤◌, ◌<◌, max, length, slice_index, slice_index_or}
 use Rattle.fraction.specs.Fraction.{Fraction, Same, whole, ◌⊕◌, ◌⊗◌, ◌⊘◌}
 use Rattle.fraction.specs.declared.ratio.Ratio.{Ratio}
 use Rattle.lookups.specs.Line.{line_at}
@@ -8,7 +8,7 @@ use Rattle.records.specs.declared.point.Point.{Point}
 
 -- the value that a cell makes of the points' values
 unfoldable pub mix : Cell → List Fraction → Fraction
-mix c ys = (get_or ys c.first (whole 0) ⊗ whole c.after ⊕ get_or ys c.second (whole 0) ⊗ whole c.before) ⊘ whole (c.after + c.before)
+mix c ys = (slice_index_or ys c.first (whole 0) ⊗ whole c.after ⊕ slice_index_or ys c.second (whole 0) ⊗ whole c.before) ⊘ whole (c.after + c.before)
 
 -- the cell serves the line at x through these places, whatever the points' values
 abbrev pub Finds : List ℕ → Fraction → Cell → Type 0
@@ -16,13 +16,13 @@ Finds xs x c = (ys : List Fraction) → length ys ≡ length xs → Same (mix c 
 
 -- no point is lower than k, none is higher, none is further on
 abbrev pub NoLower : ℕ → List Point → Type 0
-NoLower k ps = (i : ℕ) → i < length ps → k ≤ (get_or ps i (record { x = 0; y = 0 })).y
+NoLower k ps = (i : ℕ) → i < length ps → k ≤ (slice_index_or ps i (record { x = 0; y = 0 })).y
 
 abbrev pub NoHigher : ℕ → List Point → Type 0
-NoHigher k ps = (i : ℕ) → i < length ps → (get_or ps i (record { x = 0; y = 0 })).y ≤ k
+NoHigher k ps = (i : ℕ) → i < length ps → (slice_index_or ps i (record { x = 0; y = 0 })).y ≤ k
 
 abbrev pub NoFurther : ℕ → List Point → Type 0
-NoFurther k ps = (i : ℕ) → i < length ps → (get_or ps i (record { x = 0; y = 0 })).x ≤ k
+NoFurther k ps = (i : ℕ) → i < length ps → (slice_index_or ps i (record { x = 0; y = 0 })).x ≤ k
 
 -- a value r of the curve at `at` keeps between the points, and its denominator is small
 pub record Bounds (ps : List Point) (at r : Ratio) : Type 0 where
@@ -32,12 +32,12 @@ pub record Bounds (ps : List Point) (at r : Ratio) : Type 0 where
 
 -- the value of a row of factors that begins at `start`, times the cell's whole weight
 abbrev pub row_sum : List ℕ → ℕ → Cell → ℕ
-row_sum fs start c = get_or fs (start + c.first) 0 * c.after + get_or fs (start + c.second) 0 * c.before
+row_sum fs start c = slice_index fs (start + c.first) * c.after + slice_index fs (start + c.second) * c.before
 
 -- both cells lie within a grid of rows of `wide`, whose factors are in their range, and their weights are small
 pub record Crossing (fs : List ℕ) (wide : ℕ) (across along : Cell) : Type 0 where
   pub low : (along.first * wide + across.first < length fs) × (along.first * wide + across.second < length fs)
   pub high : (along.second * wide + across.first < length fs) × (along.second * wide + across.second < length fs)
-  pub factors : (k : ℕ) → k < length fs → (1 ≤ get_or fs k 0) × (get_or fs k 0 ≤ 2000)
+  pub factors : (k : ℕ) → k < length fs → (1 ≤ slice_index fs k) × (slice_index fs k ≤ 2000)
   pub across_small : across.after + across.before ≤ 120000000
   pub along_small : along.after + along.before ≤ 17280000000000000000000

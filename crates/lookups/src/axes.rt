@@ -1,4 +1,4 @@
-ghost use Rattle.std.specs.Prelude.{map, ◌≡◌, ℕ, ◌+◌, ◌-◌, ◌*◌, ◌^◌, ◌<◌, ◌≤◌, max, length, get_or};
+ghost use Rattle.std.specs.Prelude.{map, ◌≡◌, ℕ, ◌+◌, ◌-◌, ◌*◌, ◌^◌, ◌<◌, ◌≤◌, max, length, slice_index};
 ghost use Rattle.fraction.specs.Ratio.{value};
 ghost use Rattle.lookups.specs.Cell.{Finds};
 
@@ -37,7 +37,7 @@ pub fn cell_of<P: Placed>(points: &[P], at: Ratio) -> Cell
     ensures value { Finds (map P.spot points.now) (value at) result }
     ensures first { result.first < length points.now }
     ensures second { result.second < length points.now }
-    ensures small { result.after + result.before ≤ max 1 (get_or (map P.spot points.now) result.second 0 * at.den) }
+    ensures small { result.after + result.before ≤ max 1 (slice_index (map P.spot points.now) result.second * at.den) }
 {
     let mut low = points[0].place() as u128 * at.den;
     if at.num <= low {

@@ -1,4 +1,4 @@
-ghost use Rattle.std.specs.Prelude.{◌≡◌, ℕ, ◌+◌, ◌*◌, ◌^◌, ◌<◌, ◌≤◌, length, get_or};
+ghost use Rattle.std.specs.Prelude.{◌≡◌, ℕ, ◌+◌, ◌*◌, ◌^◌, ◌<◌, ◌≤◌, length, slice_index};
 ghost use Rattle.fraction.specs.Fraction.{Same, whole, ◌⊘◌};
 ghost use Rattle.fraction.specs.Ratio.{value};
 ghost use Rattle.lookups.specs.Cell.{row_sum, Crossing};
@@ -15,7 +15,7 @@ use records::{Section, Site, SupportGrid};
 // The value of a row of factors that begins at `start`, times the cell's whole weight.
 fn row_sum(factors: &[u64], start: usize, cell: Cell) -> u128
     requires inside { (start + cell.first < length factors.now) × (start + cell.second < length factors.now) }
-    requires factors { (k : ℕ) → k < length factors.now → (1 ≤ get_or factors.now k 0) × (get_or factors.now k 0 ≤ 2000) }
+    requires factors { (k : ℕ) → k < length factors.now → (1 ≤ slice_index factors.now k) × (slice_index factors.now k ≤ 2000) }
     requires small { cell.after + cell.before ≤ 120000000 }
     ensures value { result ≡ row_sum factors.now start cell }
     ensures least { cell.after + cell.before ≤ result }

@@ -19,7 +19,7 @@ pub fn put(fields: &mut [u64], place: usize, value: u64) {
     }
 }
 
-/// Whether the refusal is of this cause: a field out of its range is named, and no other cause names one.
+/// The refusal is of this cause: a field out of its range is named, and no other cause names one.
 pub fn meets(rt: &impl Abort, refusal: (u8, u64), place: usize, cause: u8) {
     let field = if cause == 2 {
         (place as u64).saturating_add(2)
