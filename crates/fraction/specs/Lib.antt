@@ -1,3 +1,4 @@
 pub mod Fraction
 pub mod Graded
 pub mod Ratio
+pub mod Ordered
