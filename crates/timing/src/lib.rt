@@ -7,46 +7,42 @@ use judging::{Verdict, judge};
 use quantities::Case;
 use records::{EmbedmentCurve, Fault, Section, ShapeCurve, Site, SupportGrid};
 
-fn products<A: ReadOut>(turns: u64) -> u64 {
-    let mut x = A::whole(355).div(A::whole(113));
-    let y = A::whole(1_000_003).div(A::whole(7));
-    for _ in 0..turns {
-        x = x.mul(y).div(y);
-    }
+// What 355/113 comes to when each turn takes the step.
+fn after<A: ReadOut, F: Fn(A) -> A>(turns: u64, step: F) -> u64
+    requires { F.IsAlwaysCallable step }
+{
+    let start = A::whole(355).div(A::whole(113));
+    let x = (0..turns).fold(start, |x, _| step(x));
     x.ceiling().unwrap_or(0)
+}
+
+fn products<A: ReadOut>(turns: u64) -> u64 {
+    let y = A::whole(1_000_003).div(A::whole(7));
+    after(turns, |x: A| x.mul(y).div(y))
 }
 
 fn sums<A: ReadOut>(turns: u64) -> u64 {
-    let mut x = A::whole(355).div(A::whole(113));
     let y = A::whole(1_000_003).div(A::whole(7_000));
-    for _ in 0..turns {
-        x = x.add(y).excess(y);
-    }
-    x.ceiling().unwrap_or(0)
+    after(turns, |x: A| x.add(y).excess(y))
 }
 
 fn choices<A: ReadOut>(turns: u64) -> u64 {
-    let mut x = A::whole(355).div(A::whole(113));
     let y = A::whole(1_000_003).div(A::whole(7));
-    for _ in 0..turns {
-        x = x.larger(y).smaller(x);
-    }
-    x.ceiling().unwrap_or(0)
+    after(turns, |x: A| x.larger(y).smaller(x))
 }
 
 fn wholes<A: ReadOut>(turns: u64) -> u64 {
-    let mut x = A::whole(0);
-    for i in 0..turns {
+    let x = (0..turns).fold(A::whole(0), |x, i| {
         let n = (i & 0xffff) + 1;
-        x = x
-            .larger(A::whole(n))
+        x.larger(A::whole(n))
             .larger(A::whole(n ^ 1))
             .larger(A::whole(n ^ 2))
-            .larger(A::whole(n ^ 3));
-    }
+            .larger(A::whole(n ^ 3))
+    });
     x.ceiling().unwrap_or(0)
 }
 
+// C calls a function of its own for each radix.
 #[unsafe(no_mangle)]
 pub extern "C" fn binary_products(turns: u64) -> u64 {
     products::<Binary>(turns)
@@ -100,7 +96,7 @@ fn accepted<A: Arithmetic>(turns: u64) -> Result<u64, Fault> {
         let fill = 60_000 + (i & 0x3ffff);
         let site = Site::new(&[fill, 78_000, 50_000, 1_200, 1_360, 130, 150, 1_500, 0, 1])?;
         let case = Case::new(section, &embedment, &shape, &grid, site)?;
-        if let Verdict::Accepted = judge::<A>(&case).verdict {
+        if judge::<A>(&case).verdict == Verdict::Accepted {
             count = count.wrapping_add(1);
         }
     }
