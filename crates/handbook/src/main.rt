@@ -77,7 +77,7 @@ fn is_within(x: Ratio, printed: u32) -> bool
         num: 102 * printed as u128,
         den: 1_000,
     };
-    least.at_most(x) && x.at_most(most)
+    least <= x && x <= most
 }
 
 /// Whether both bounds are within 2 in 100 of a printed number of millionths, and so what lies between them.
@@ -174,41 +174,15 @@ fn print_figures(rt: &impl Print) -> Result<(), Stop> {
         1,
     ])?;
     let case = Case::new(section, &embedment, &shape, &grid, site)?;
-    print_figure(
-        rt,
-        "Prism pressure Psp, psi",
-        &case,
-        Figure::PrismPressure,
-        1_070,
-    )?;
-    print_figure(
-        rt,
-        "Soil modulus Ms, psi",
-        &case,
-        Figure::SoilModulus,
-        158_300,
-    )?;
-    print_figure(
-        rt,
-        "Hoop stiffness factor SH",
-        &case,
-        Figure::HoopStiffness,
-        151,
-    )?;
-    print_figure(
-        rt,
-        "Vertical arching factor VAF",
-        &case,
-        Figure::VerticalArching,
-        70,
-    )?;
-    print_figure(
-        rt,
-        "Design thrust TD, lbf/in",
-        &case,
-        Figure::DesignThrust,
-        41_000,
-    )?;
+    for (name, figure, printed) in [
+        ("Prism pressure Psp, psi", Figure::PrismPressure, 1_070),
+        ("Soil modulus Ms, psi", Figure::SoilModulus, 158_300),
+        ("Hoop stiffness factor SH", Figure::HoopStiffness, 151),
+        ("Vertical arching factor VAF", Figure::VerticalArching, 70),
+        ("Design thrust TD, lbf/in", Figure::DesignThrust, 41_000),
+    ] {
+        print_figure(rt, name, &case, figure, printed)?;
+    }
     Ok(())
 }
 
