@@ -1,4 +1,8 @@
-use crate::told::{Edge, meets, put, told};
+use crate::refusals::{Edge, meets, put, refused};
+use records::Cause::{
+    Claim, Empty, Figure, Length, Order, Part, Place, Range, Steep, Tally, Trailer, Trench, Water,
+    Writing,
+};
 use records::{Section, Site};
 
 const SECTION: [u64; 11] = [
@@ -6,111 +10,111 @@ const SECTION: [u64; 11] = [
 ];
 
 const SECTION_EDGES: [Edge; 58] = [
-    (0, 2_999, 2),
-    (0, 3_000, 0),
-    (0, 38_499, 0),
-    (0, 38_500, 3),
-    (0, 120_000, 3),
-    (0, 120_001, 2),
-    (1, 2_999, 2),
-    (1, 3_000, 3),
-    (1, 36_000, 3),
-    (1, 36_001, 0),
-    (1, 40_999, 0),
-    (1, 41_000, 3),
-    (1, 120_000, 3),
-    (1, 120_001, 2),
-    (2, 2_999, 2),
-    (2, 3_000, 3),
-    (2, 38_500, 3),
-    (2, 38_501, 0),
-    (2, 120_000, 0),
-    (2, 120_001, 2),
-    (3, 99, 2),
-    (3, 100, 3),
-    (3, 5_399, 3),
-    (3, 5_400, 0),
-    (3, 100_000, 0),
-    (3, 100_001, 2),
-    (4, 99, 2),
-    (4, 100, 0),
-    (4, 6_500, 0),
-    (4, 6_501, 3),
-    (4, 100_000, 3),
-    (4, 100_001, 2),
-    (5, 99, 2),
-    (5, 100, 0),
-    (5, 100_000_000, 0),
-    (5, 100_000_001, 2),
-    (6, 999, 2),
-    (6, 1_000, 3),
-    (6, 28_000, 0),
-    (6, 1_000_000, 0),
-    (6, 1_000_001, 2),
-    (7, 999, 2),
-    (7, 1_000, 0),
-    (7, 175_000, 0),
-    (7, 175_001, 3),
-    (7, 1_000_000, 3),
-    (7, 1_000_001, 2),
-    (8, 0, 2),
-    (8, 1, 0),
-    (8, 2_000, 0),
-    (8, 2_001, 2),
-    (9, 0, 2),
-    (9, 1, 0),
-    (9, 2_000, 0),
-    (9, 2_001, 2),
-    (10, 0, 0),
-    (10, 100_000, 0),
-    (10, 100_001, 2),
+    (0, 2_999, Some(Range)),
+    (0, 3_000, None),
+    (0, 38_499, None),
+    (0, 38_500, Some(Order)),
+    (0, 120_000, Some(Order)),
+    (0, 120_001, Some(Range)),
+    (1, 2_999, Some(Range)),
+    (1, 3_000, Some(Order)),
+    (1, 36_000, Some(Order)),
+    (1, 36_001, None),
+    (1, 40_999, None),
+    (1, 41_000, Some(Order)),
+    (1, 120_000, Some(Order)),
+    (1, 120_001, Some(Range)),
+    (2, 2_999, Some(Range)),
+    (2, 3_000, Some(Order)),
+    (2, 38_500, Some(Order)),
+    (2, 38_501, None),
+    (2, 120_000, None),
+    (2, 120_001, Some(Range)),
+    (3, 99, Some(Range)),
+    (3, 100, Some(Order)),
+    (3, 5_399, Some(Order)),
+    (3, 5_400, None),
+    (3, 100_000, None),
+    (3, 100_001, Some(Range)),
+    (4, 99, Some(Range)),
+    (4, 100, None),
+    (4, 6_500, None),
+    (4, 6_501, Some(Order)),
+    (4, 100_000, Some(Order)),
+    (4, 100_001, Some(Range)),
+    (5, 99, Some(Range)),
+    (5, 100, None),
+    (5, 100_000_000, None),
+    (5, 100_000_001, Some(Range)),
+    (6, 999, Some(Range)),
+    (6, 1_000, Some(Order)),
+    (6, 28_000, None),
+    (6, 1_000_000, None),
+    (6, 1_000_001, Some(Range)),
+    (7, 999, Some(Range)),
+    (7, 1_000, None),
+    (7, 175_000, None),
+    (7, 175_001, Some(Order)),
+    (7, 1_000_000, Some(Order)),
+    (7, 1_000_001, Some(Range)),
+    (8, 0, Some(Range)),
+    (8, 1, None),
+    (8, 2_000, None),
+    (8, 2_001, Some(Range)),
+    (9, 0, Some(Range)),
+    (9, 1, None),
+    (9, 2_000, None),
+    (9, 2_001, Some(Range)),
+    (10, 0, None),
+    (10, 100_000, None),
+    (10, 100_001, Some(Range)),
 ];
 
 const SITE: [u64; 10] = [180_000, 78_000, 96_000, 1_200, 1_360, 130, 150, 1_500, 0, 1];
 
 const SITE_EDGES: [Edge; 42] = [
-    (0, 12_000, 2),
-    (0, 12_001, 0),
-    (0, 1_200_000, 0),
-    (0, 1_200_001, 2),
-    (1, 0, 2),
-    (1, 1, 0),
-    (1, 1_200_000, 0),
-    (1, 1_200_001, 2),
-    (2, 0, 0),
-    (2, 1_260_000, 0),
-    (2, 1_260_001, 2),
-    (3, 499, 2),
-    (3, 500, 0),
-    (3, 2_000, 0),
-    (3, 2_001, 2),
-    (4, 799, 2),
-    (4, 800, 0),
-    (4, 2_000, 0),
-    (4, 2_001, 2),
-    (5, 99, 2),
-    (5, 100, 0),
-    (5, 130, 0),
-    (5, 131, 2),
-    (6, 114, 2),
-    (6, 115, 0),
-    (6, 116, 2),
-    (6, 134, 2),
-    (6, 135, 0),
-    (6, 136, 2),
-    (6, 149, 2),
-    (6, 150, 0),
-    (6, 151, 2),
-    (7, 49, 2),
-    (7, 50, 0),
-    (7, 50_000, 0),
-    (7, 50_001, 2),
-    (8, 0, 0),
-    (8, 1, 0),
-    (8, 2, 2),
-    (9, 0, 0),
-    (9, 1, 0),
-    (9, 2, 2),
+    (0, 12_000, Some(Range)),
+    (0, 12_001, None),
+    (0, 1_200_000, None),
+    (0, 1_200_001, Some(Range)),
+    (1, 0, Some(Range)),
+    (1, 1, None),
+    (1, 1_200_000, None),
+    (1, 1_200_001, Some(Range)),
+    (2, 0, None),
+    (2, 1_260_000, None),
+    (2, 1_260_001, Some(Range)),
+    (3, 499, Some(Range)),
+    (3, 500, None),
+    (3, 2_000, None),
+    (3, 2_001, Some(Range)),
+    (4, 799, Some(Range)),
+    (4, 800, None),
+    (4, 2_000, None),
+    (4, 2_001, Some(Range)),
+    (5, 99, Some(Range)),
+    (5, 100, None),
+    (5, 130, None),
+    (5, 131, Some(Range)),
+    (6, 114, Some(Range)),
+    (6, 115, None),
+    (6, 116, Some(Range)),
+    (6, 134, Some(Range)),
+    (6, 135, None),
+    (6, 136, Some(Range)),
+    (6, 149, Some(Range)),
+    (6, 150, None),
+    (6, 151, Some(Range)),
+    (7, 49, Some(Range)),
+    (7, 50, None),
+    (7, 50_000, None),
+    (7, 50_001, Some(Range)),
+    (8, 0, None),
+    (8, 1, None),
+    (8, 2, Some(Range)),
+    (9, 0, None),
+    (9, 1, None),
+    (9, 2, Some(Range)),
 ];
 
 #[test]
@@ -118,7 +122,7 @@ fn section_edges(rt: HostRuntime) {
     for (place, value, cause) in SECTION_EDGES {
         let mut fields = SECTION;
         put(&mut fields, place, value);
-        meets(&rt, told(Section::new(&fields)), place, cause);
+        meets(&rt, Section::new(&fields).err(), place, cause);
     }
 }
 
@@ -127,37 +131,50 @@ fn site_edges(rt: HostRuntime) {
     for (place, value, cause) in SITE_EDGES {
         let mut fields = SITE;
         put(&mut fields, place, value);
-        meets(&rt, told(Site::new(&fields)), place, cause);
+        meets(&rt, Site::new(&fields).err(), place, cause);
     }
 }
 
 #[test]
 fn order_of_causes(rt: HostRuntime) {
-    assert_eq!(rt; told(Section::new(&[])), (11, 0));
+    assert_eq!(rt; Section::new(&[]).err(), refused(Writing, 0));
     assert_eq!(rt;
-        told(Section::new(&[0, 0, 0, 0, 0, 0, 0, 0, 0, 0])),
-        (11, 0)
+        Section::new(&[0, 0, 0, 0, 0, 0, 0, 0, 0, 0]).err(),
+        refused(Writing, 0)
     );
     assert_eq!(rt;
-        told(Section::new(&[0, 0, 0, 0, 0, 0, 0, 0, 0, 0, 0, 0])),
-        (11, 0)
+        Section::new(&[0, 0, 0, 0, 0, 0, 0, 0, 0, 0, 0, 0]).err(),
+        refused(Writing, 0)
     );
     let disordered = [
         41_000, 38_500, 36_000, 6_500, 5_400, 1_520_000, 28_000, 175_000, 370, 250, 100_001,
     ];
-    assert_eq!(rt; told(Section::new(&disordered)), (2, 12));
+    assert_eq!(rt; Section::new(&disordered).err(), refused(Range, 12));
     assert_eq!(rt;
-        told(Section::new(&[
+        Section::new(&[
             41_000, 2, 3, 6_500, 5_400, 1_520_000, 28_000, 175_000, 370, 250, 0,
-        ],)),
-        (2, 3)
+        ],)
+        .err(),
+        refused(Range, 3)
     );
     assert_eq!(rt;
-        told(Site::new(&[180_000, 78_000, 96_000, 1_200, 1_360, 130, 150, 1_500, 0])),
-        (11, 0)
+        Site::new(&[180_000, 78_000, 96_000, 1_200, 1_360, 130, 150, 1_500, 0]).err(),
+        refused(Writing, 0)
     );
     assert_eq!(rt;
-        told(Site::new(&[180_000, 0, 0, 1_200, 1_360, 130, 0, 1_500, 2, 2])),
-        (2, 3)
+        Site::new(&[180_000, 0, 0, 1_200, 1_360, 130, 0, 1_500, 2, 2]).err(),
+        refused(Range, 3)
+    );
+}
+
+#[test]
+fn numbers_of_causes(rt: HostRuntime) {
+    let causes = [
+        Place, Range, Order, Steep, Empty, Trench, Water, Figure, Claim, Tally, Writing, Part,
+        Trailer, Length,
+    ];
+    assert_eq!(rt;
+        causes.map(|cause| cause.number()),
+        [1, 2, 3, 4, 5, 6, 7, 8, 9, 10, 11, 12, 13, 14]
     );
 }

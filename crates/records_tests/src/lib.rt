@@ -9,6 +9,6 @@ mod fixed;
 #[cfg(test)]
 mod grids;
 #[cfg(test)]
-mod told;
+mod refusals;
 #[cfg(test)]
 mod values;
