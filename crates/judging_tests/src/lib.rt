@@ -6,4 +6,6 @@ mod cases;
 #[cfg(test)]
 mod claims;
 #[cfg(test)]
+mod sample;
+#[cfg(test)]
 mod sheets;

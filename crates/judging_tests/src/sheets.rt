@@ -1,16 +1,14 @@
 //! Sheets and marks in both arithmetics. The expected states and figures were computed apart, in exact fractions.
+use crate::sample::{SECTION, on_case};
 use digits::{Binary, Decimal};
-use enclosure::{Arithmetic, ReadOut};
+use enclosure::ReadOut;
 use judging::{Claimed, Figure, Mark, Sheet, State, Verdict, figure, judge, mark};
 use quantities::Case;
-use records::{EmbedmentCurve, Fault, Section, ShapeCurve, Site, SupportGrid};
 use std::process::Abort;
 use std::test::Fail;
 
-const SECTION: [u64; 11] = [
-    36_000, 38_500, 41_000, 6_500, 5_400, 1_520_000, 175_000, 28_000, 370, 250, 4_000,
-];
-
+// A sheet is a row of letters here, the verdict first: a table of rows is easier to check against the computation apart
+// than eight named fields a sheet.
 fn letter(state: State) -> u8 {
     match state {
         State::Holds => b'H',
@@ -38,29 +36,17 @@ fn letters(s: Sheet) -> [u8; 8] {
     ]
 }
 
-// The sheets of the section on the site, with the sample's curves and grid, in both arithmetics.
-fn sheets(section: &[u64], site: &[u64]) -> Result<([u8; 8], [u8; 8]), Fault> {
-    let section = Section::new(section)?;
-    let embedment = EmbedmentCurve::new(&[2, 1_000, 1_625, 2_000, 1_800])?;
-    let shape = ShapeCurve::new(&[2, 3_600, 350, 7_200, 280])?;
-    let grid = SupportGrid::new(&[2, 2, 175, 200, 800, 1_000, 900, 930, 1_000, 1_000])?;
-    let site = Site::new(site)?;
-    let case = Case::new(section, &embedment, &shape, &grid, site)?;
-    Ok((
-        letters(judge::<Binary>(&case)),
-        letters(judge::<Decimal>(&case)),
-    ))
-}
-
+// The sheet of the section on the site, in both arithmetics.
 fn check_sheet(
     rt: &impl Abort,
     section: &[u64],
     site: &[u64],
     expected: &[u8; 8],
 ) -> Result<(), Fail> {
-    let (binary, decimal) = sheets(section, site).ok().ok_or("refused")?;
-    assert_eq!(rt; binary, *expected);
-    assert_eq!(rt; decimal, *expected);
+    let binary = on_case(section, site, |case| judge::<Binary>(case))?;
+    let decimal = on_case(section, site, |case| judge::<Decimal>(case))?;
+    assert_eq!(rt; letters(binary), *expected);
+    assert_eq!(rt; letters(decimal), *expected);
     Ok(())
 }
 
@@ -230,45 +216,37 @@ fn sections(rt: HostRuntime) -> Result<(), Fail> {
     )
 }
 
-fn mark_letter<A: Arithmetic>(case: &Case, claim: u64) -> u8 {
-    let Some(claim) = Claimed::new(claim) else {
-        return b'-';
-    };
-    match mark::<A>(case, Figure::PrismPressure, claim) {
-        Mark::Right => b'R',
-        Mark::Wrong => b'W',
-        Mark::Unmarked => b'X',
-    }
-}
+const SITE: [u64; 10] = [180_000, 78_000, 96_000, 1_200, 1_360, 130, 150, 1_500, 0, 1];
 
-// The prism pressure of the first sample case and the marks of claims on it, in an arithmetic.
-fn marks<A: ReadOut>() -> Result<((u64, u64), [u8; 7]), Fault> {
-    let section = Section::new(&SECTION)?;
-    let embedment = EmbedmentCurve::new(&[2, 1_000, 1_625, 2_000, 1_800])?;
-    let shape = ShapeCurve::new(&[2, 3_600, 350, 7_200, 280])?;
-    let grid = SupportGrid::new(&[2, 2, 175, 200, 800, 1_000, 900, 930, 1_000, 1_000])?;
-    let site = Site::new(&[180_000, 78_000, 96_000, 1_200, 1_360, 130, 150, 1_500, 0, 1])?;
-    let case = Case::new(section, &embedment, &shape, &grid, site)?;
-    let letters = [
-        mark_letter::<A>(&case, 10_700_000),
-        mark_letter::<A>(&case, 10_000_000),
-        mark_letter::<A>(&case, 10_559_185),
-        mark_letter::<A>(&case, 10_559_187),
-        mark_letter::<A>(&case, 10_772_502),
-        mark_letter::<A>(&case, 10_772_503),
-        mark_letter::<A>(&case, 0),
-    ];
-    Ok((figure::<A>(&case, Figure::PrismPressure), letters))
+const CLAIMS: [u64; 7] = [
+    10_700_000, 10_000_000, 10_559_185, 10_559_187, 10_772_502, 10_772_503, 0,
+];
+
+const MARKS: [Option<Mark>; 7] = [
+    Some(Mark::Right),
+    Some(Mark::Wrong),
+    Some(Mark::Wrong),
+    Some(Mark::Right),
+    Some(Mark::Right),
+    Some(Mark::Wrong),
+    None,
+];
+
+// The prism pressure of the first sample case, and the marks of the claims on it.
+fn marked<A: ReadOut>(case: &Case) -> ((u64, u64), [Option<Mark>; 7]) {
+    let read = figure::<A>(case, Figure::PrismPressure);
+    let marks = CLAIMS.map(|claim| {
+        Claimed::new(claim).map(|claim| mark::<A>(case, Figure::PrismPressure, claim))
+    });
+    (read, marks)
 }
 
 // The exact prism pressure is 10,664,777 and 7/9 millionths: 100/101 of it is 10,559,185.9.., 100/99 of it 10,772,502.8..
 #[test]
 fn claims_at_both_edges(rt: HostRuntime) -> Result<(), Fail> {
-    let (binary, in_binary) = marks::<Binary>().ok().ok_or("refused")?;
-    let (decimal, in_decimal) = marks::<Decimal>().ok().ok_or("refused")?;
-    assert_eq!(rt; binary, (10_664_777, 10_664_778));
-    assert_eq!(rt; decimal, (10_664_777, 10_664_778));
-    assert_eq!(rt; in_binary, *b"RWWRRW-");
-    assert_eq!(rt; in_decimal, *b"RWWRRW-");
+    let binary = on_case(&SECTION, &SITE, |case| marked::<Binary>(case))?;
+    let decimal = on_case(&SECTION, &SITE, |case| marked::<Decimal>(case))?;
+    assert_eq!(rt; binary, ((10_664_777, 10_664_778), MARKS));
+    assert_eq!(rt; decimal, ((10_664_777, 10_664_778), MARKS));
     Ok(())
 }
