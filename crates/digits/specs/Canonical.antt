@@ -1,7 +1,8 @@
 -- Ends are canonical.
-use Rattle.std.specs.Prelude.{◌≡◌, ℕ}
+use Rattle.std.specs.Prelude.{◌≡◌}
 use Rattle.fraction.specs.Fraction.{Same}
 use Rattle.enclosure.specs.Model.{Upper, at, unbounded}
+use Rattle.rounding.specs.declared.radix.Radix.{Ghosts}
 use Rattle.digits.specs.Meaning.{value, bound}
 use Rattle.digits.specs.declared.span.Enclosure.{Enclosure}
 
@@ -13,6 +14,6 @@ SameUpper unbounded (at y) = ⊥
 SameUpper unbounded unbounded = Unit {0}
 
 -- enclosures with equal ends are equal, over every radix
-abbrev pub EndsDecide : Type 0
-EndsDecide =
-    (B S W bias : ℕ) (a b : Enclosure B S W bias) → Same (value a.lower) (value b.lower) → SameUpper (bound a.upper) (bound b.upper) → a ≡ b
+abbrev pub EndsDecide : {R : Type 0} → Ghosts R → Type 0
+EndsDecide {R} g =
+    (a b : Enclosure R g) → Same (value a.lower) (value b.lower) → SameUpper (bound a.upper) (bound b.upper) → a ≡ b

@@ -7,7 +7,7 @@ use Rattle.std.proofs.Math.Logic.{dite}
 use Rattle.fraction.specs.Fraction.{Fraction, ratio, whole, ◌⊕◌, ◌⊘◌, ◌≼◌}
 use Rattle.fraction.proofs.Order.{le_trans, one_max, plus_first}
 use Rattle.enclosure.specs.Model.{Below, Near, huge, tiny}
-use Rattle.rounding.specs.Radix.{Radix}
+use Rattle.rounding.specs.declared.radix.Radix.{Ghosts}
 use Rattle.rounding.specs.Rounded.{rounded, or_zero}
 use Rattle.rounding.specs.declared.rounding.Rounding.TheVariants.{Down, Up}
 use Rattle.rounding.specs.declared.end.End.{End}
@@ -70,63 +70,63 @@ join_nat a b sd t p q =
     (λ h. let e : max a b ≡ b = omega arith in rw e q)
     (λ h. let e : max a b ≡ a = let l = lt_of_not-le h in omega arith in rw e p)
 
-module _ {B S W bias : ℕ} (z : Radix B S W bias) (x : Fraction) (N u : ℕ) (pu : 0 < u) (stands : x.num * (u * B ^ bias) ≡ N * x.den) where
-  pub exact_below : value (or_zero z (rounded z Down N u)) ≼ x
-  exact_below = record { cross = under_nat x.num x.den N u (B ^ bias) _ pu stands (below z N u pu) }
+module _ {R : Type 0} (g : Ghosts R) (x : Fraction) (N u : ℕ) (pu : 0 < u) (stands : x.num * (u * g.BASE ^ g.BIAS) ≡ N * x.den) where
+  pub exact_below : value (or_zero {g = g} (rounded {g = g} Down N u)) ≼ x
+  exact_below = record { cross = under_nat x.num x.den N u (g.BASE ^ g.BIAS) _ pu stands (below g N u pu) }
 
-  reached : (o : Option (End B S W bias)) → Reaches N u o → Below x (bound o)
-  reached (Some h) r = record { cross = over_nat x.num x.den N u (B ^ bias) _ pu stands r }
+  reached : (o : Option (End R g)) → Reaches N u o → Below x (bound o)
+  reached (Some h) r = record { cross = over_nat x.num x.den N u (g.BASE ^ g.BIAS) _ pu stands r }
   reached None r = tt
 
-  pub exact_above : Below x (bound (rounded z Up N u))
-  exact_above = reached (rounded z Up N u) (above z N u pu)
+  pub exact_above : Below x (bound (rounded {g = g} Up N u))
+  exact_above = reached (rounded {g = g} Up N u) (above g N u pu)
 
   module _ (s : Fraction) (small : x ≼ huge) (scaled : x ≼ s) (slight : tiny ≼ s) where
     Q : ℕ
-    Q = max N (W * W * u)
+    Q = max N (g.FULL * g.FULL * u)
 
-    range : N ≤ 10 ^ 36 * B ^ bias * u
+    range : N ≤ 10 ^ 36 * g.BASE ^ g.BIAS * u
     unfolding huge whole
-    range = range_nat x.num x.den N u (B ^ bias) (10 ^ 36) x.pos stands small.cross
+    range = range_nat x.num x.den N u (g.BASE ^ g.BIAS) (10 ^ 36) x.pos stands small.cross
 
-    wide : Q * s.den ≤ s.num * (u * B ^ bias)
+    wide : Q * s.den ≤ s.num * (u * g.BASE ^ g.BIAS)
     unfolding Q tiny ratio
     wide =
-        join_nat N (W * W * u) s.den _
-        (scale_nat x.num x.den N u (B ^ bias) s.num s.den x.pos stands scaled.cross)
-        (tiny_nat W u (B ^ bias) (10 ^ 36) s.num s.den z.2.0 slight.cross)
+        join_nat N (g.FULL * g.FULL * u) s.den _
+        (scale_nat x.num x.den N u (g.BASE ^ g.BIAS) s.num s.den x.pos stands scaled.cross)
+        (tiny_nat g.FULL u (g.BASE ^ g.BIAS) (10 ^ 36) s.num s.den g.lawful.2.0 slight.cross)
 
-    fine : max 1 W ≡ W
-    fine = one_max W (omega arith)
+    fine : max 1 g.FULL ≡ g.FULL
+    fine = one_max g.FULL (omega arith)
 
-    pub near_below : Near W s x (value (or_zero z (rounded z Down N u)))
+    pub near_below : Near g.FULL s x (value (or_zero {g = g} (rounded {g = g} Down N u)))
     unfolding Q ◌⊕◌ ◌⊘◌ whole
     near_below =
         record {
           under =
               record {
-                cross = rw fine (near_under W x.num x.den N u (B ^ bias) _ Q s.num s.den pu stands (below_near z N u pu Q (omega arith) (omega arith) range) wide);
+                cross = rw fine (near_under g.FULL x.num x.den N u (g.BASE ^ g.BIAS) _ Q s.num s.den pu stands (below_near g N u pu Q (omega arith) (omega arith) range) wide);
               };
-          over = le_trans exact_below (plus_first x (s ⊘ whole W));
+          over = le_trans exact_below (plus_first x (s ⊘ whole g.FULL));
         }
 
     -- the upper end is there
     pub record Topped : Type 0 where
-      pub end : End B S W bias
-      pub is : rounded z Up N u ≡ Some end
-      pub near : Near W s x (value end)
+      pub end : End R g
+      pub is : rounded {g = g} Up N u ≡ Some end
+      pub near : Near g.FULL s x (value end)
 
     pub near_above : Topped
     unfolding Q ◌⊕◌ ◌⊘◌ whole
     near_above =
-        let t = above_near z N u pu Q (omega arith) (omega arith) range in
-        let reach : Reaches N u (Some t.end) = subst (Reaches N u) t.is (above z N u pu) in
+        let t = above_near g N u pu Q (omega arith) (omega arith) range in
+        let reach : Reaches N u (Some t.end) = subst (Reaches N u) t.is (above g N u pu) in
         record {
           end = t.end;
           is = t.is;
           near =
               record {
-                under = le_trans (reached (Some t.end) reach) (plus_first (value t.end) (s ⊘ whole W));
-                over = record { cross = rw fine (near_over W x.num x.den N u (B ^ bias) _ Q s.num s.den pu stands t.near wide) };
+                under = le_trans (reached (Some t.end) reach) (plus_first (value t.end) (s ⊘ whole g.FULL));
+                over = record { cross = rw fine (near_over g.FULL x.num x.den N u (g.BASE ^ g.BIAS) _ Q s.num s.den pu stands t.near wide) };
               };
         }

@@ -10,7 +10,7 @@ use Rattle.fraction.specs.Fraction.{Fraction, whole, ◌⊕◌, ◌⊗◌, ◌�
 use Rattle.fraction.proofs.Order.{le_trans, plus_le, times_le, over_le, excess_le, excess_first, above_zero, one_max, sub_mul}
 use Rattle.fraction.proofs.Lattice.{larger_first, larger_second, smaller_mono, larger_mono, smaller_first, smaller_second, le_smaller, larger_le}
 use Rattle.enclosure.specs.Model.{Model, Upper, at, unbounded, Below, Encloses, Bounded, Near, Fine, Ends, Sound, huge, tiny}
-use Rattle.rounding.specs.Radix.{Radix}
+use Rattle.rounding.specs.declared.radix.Radix.{Ghosts}
 use Rattle.rounding.specs.Rounded.{rounded, divided, units, or_zero, zero_end, Ordered, wider}
 use Rattle.rounding.specs.Pairs.{lower_whole, upper_whole, upper_sum, upper_product, lower_quotient, upper_quotient, lower_excess, upper_excess, smaller_end, larger_end, smaller_upper, larger_upper}
 use Rattle.rounding.specs.declared.rounding.Rounding.TheVariants.{Down, Up}
@@ -39,73 +39,73 @@ in_scale x s = le_trans (larger_first x tiny) (larger_first (x ⊔ tiny) s)
 tiny_scale : (x s : Fraction) → tiny ≼ x ⊔ tiny ⊔ s
 tiny_scale x s = le_trans (larger_second x tiny) (larger_first (x ⊔ tiny) s)
 
-module _ {B S W bias : ℕ} (z : Radix B S W bias) where
-  abbrev m : Model (Enclosure B S W bias)
-  m = model_of z
+module _ {R : Type 0} (g : Ghosts R) where
+  abbrev m : Model (Enclosure R g)
+  m = model_of
 
-  pub enclosure_ordered : (l : End B S W bias) (h : Option (End B S W bias)) → Ordered l h → Below (value l) (bound h)
-  enclosure_ordered l (Some h) o = record { cross = mul-le-mul_right (B ^ bias) o }
+  pub enclosure_ordered : (l : End R g) (h : Option (End R g)) → Ordered l h → Below (value l) (bound h)
+  enclosure_ordered l (Some h) o = record { cross = mul-le-mul_right (g.BASE ^ g.BIAS) o }
   enclosure_ordered l None o = tt
 
   -- N / u units, for the exact fraction x
   abbrev Is : Fraction → ℕ → ℕ → Type 0
-  Is x N u = x.num * (u * B ^ bias) ≡ N * x.den
+  Is x N u = x.num * (u * g.BASE ^ g.BIAS) ≡ N * x.den
 
-  whole_is : (n : ℕ) → Is (whole n) (n * B ^ bias) 1
+  whole_is : (n : ℕ) → Is (whole n) (n * g.BASE ^ g.BIAS) 1
   unfolding whole
   whole_is n = omega arith
 
-  sum_is : (a b : End B S W bias) → Is (value a ⊕ value b) (units a + units b) 1
+  sum_is : (a b : End R g) → Is (value a ⊕ value b) (units a + units b) 1
   unfolding ◌⊕◌
   sum_is a b = omega arith
 
-  product_is : (a b : End B S W bias) → Is (value a ⊗ value b) (units a * units b) (B ^ bias)
+  product_is : (a b : End R g) → Is (value a ⊗ value b) (units a * units b) (g.BASE ^ g.BIAS)
   unfolding ◌⊗◌
   product_is a b = omega arith
 
-  excess_is : (a b : End B S W bias) → Is (value a ⊖ value b) (units a - units b) 1
+  excess_is : (a b : End R g) → Is (value a ⊖ value b) (units a - units b) 1
   unfolding ◌⊖◌
-  excess_is a b = let e = sub_mul (units a) (units b) (B ^ bias) in omega (arith, ap (λ x. x * B ^ bias) e)
+  excess_is a b = let e = sub_mul (units a) (units b) (g.BASE ^ g.BIAS) in omega (arith, ap (λ x. x * g.BASE ^ g.BIAS) e)
 
-  quotient_is : (a b : End B S W bias) → 0 < units b → Is (value a ⊘ value b) (units a * B ^ bias) (units b)
+  quotient_is : (a b : End R g) → 0 < units b → Is (value a ⊘ value b) (units a * g.BASE ^ g.BIAS) (units b)
   unfolding ◌⊘◌
-  quotient_is a b pos = let e = one_max (units b) pos in omega (arith, ap (λ x. units a * B ^ bias * (B ^ bias * x)) e)
+  quotient_is a b pos = let e = one_max (units b) pos in omega (arith, ap (λ x. units a * g.BASE ^ g.BIAS * (g.BASE ^ g.BIAS * x)) e)
 
   -- both ends near the exact ones
-  fine_by : (l h s : Fraction) (N u M v : ℕ) → 0 < u → 0 < v → Is l N u → Is h M v → l ≼ huge → h ≼ huge → (e : Enclosure B S W bias) → e.lower ≡ or_zero z (rounded z Down N u) → e.upper ≡ rounded z Up M v → Fine m s l h e
+  fine_by : (l h s : Fraction) (N u M v : ℕ) → 0 < u → 0 < v → Is l N u → Is h M v → l ≼ huge → h ≼ huge → (e : Enclosure R g) → e.lower ≡ or_zero {g = g} (rounded {g = g} Down N u) → e.upper ≡ rounded {g = g} Up M v → Fine m s l h e
   fine_by l h s N u M v pu pv il ih hl hh e p q =
-      let t = near_above z h M v pv ih (h ⊔ tiny ⊔ s) hh (in_scale h s) (tiny_scale h s) in
+      let t = near_above g h M v pv ih (h ⊔ tiny ⊔ s) hh (in_scale h s) (tiny_scale h s) in
       record {
         top = value t.end;
         is = ap bound (q ∙ t.is);
-        low = subst (λ (g : End B S W bias). Near W (l ⊔ tiny ⊔ s) l (value g)) (sym p) (near_below z l N u pu il (l ⊔ tiny ⊔ s) hl (in_scale l s) (tiny_scale l s));
+        low = subst (λ (x : End R g). Near g.FULL (l ⊔ tiny ⊔ s) l (value x)) (sym p) (near_below g l N u pu il (l ⊔ tiny ⊔ s) hl (in_scale l s) (tiny_scale l s));
         high = t.near;
       }
 
   -- an upper end that is a fraction
-  record Capped (o : Option (End B S W bias)) (h : Fraction) : Type 0 where
-    end : End B S W bias
+  record Capped (o : Option (End R g)) (h : Fraction) : Type 0 where
+    end : End R g
     is : o ≡ Some end
     same : value end ≡ h
 
-  capped : (o : Option (End B S W bias)) (h : Fraction) → bound o ≡ at h → Capped o h
+  capped : (o : Option (End R g)) (h : Fraction) → bound o ≡ at h → Capped o h
   capped (Some e) h p = record { end = e; is = refl; same = at_is p }
   capped None h p = let q : ◌≡◌ {A = ℕ} 0 1 = cc in absurd (omega arith)
 
-  divided_is : (a b : ℕ) → 0 < b → divided z Down a b ≡ rounded z Down (a * B ^ bias) b
-  divided_is a b pos = ap (λ t. cond t None (rounded z Down (a * B ^ bias) b)) (ne_eqb b 0 (λ e. omega arith))
+  divided_is : (a b : ℕ) → 0 < b → divided {g = g} Down a b ≡ rounded {g = g} Down (a * g.BASE ^ g.BIAS) b
+  divided_is a b pos = ap (λ t. cond t None (rounded {g = g} Down (a * g.BASE ^ g.BIAS) b)) (ne_eqb b 0 (λ e. omega arith))
 
-  divided_up : (a b : ℕ) → 0 < b → divided z Up a b ≡ rounded z Up (a * B ^ bias) b
-  divided_up a b pos = ap (λ t. cond t None (rounded z Up (a * B ^ bias) b)) (ne_eqb b 0 (λ e. omega arith))
+  divided_up : (a b : ℕ) → 0 < b → divided {g = g} Up a b ≡ rounded {g = g} Up (a * g.BASE ^ g.BIAS) b
+  divided_up a b pos = ap (λ t. cond t None (rounded {g = g} Up (a * g.BASE ^ g.BIAS) b)) (ne_eqb b 0 (λ e. omega arith))
 
-  zero_below : (x : Fraction) → value (zero_end z) ≼ x
-  zero_below x = record { cross = omega (arith, ap (λ u. u * x.den) (zero_units z)) }
+  zero_below : (x : Fraction) → value (zero_end {g = g}) ≼ x
+  zero_below x = record { cross = omega (arith, ap (λ u. u * x.den) (zero_units g)) }
 
-  lower_is : (n : ℕ) → n ≤ 2 ^ 62 → lower_whole z n ≡ or_zero z (rounded z Down (n * B ^ bias) 1)
-  lower_is n h = ap (λ t. or_zero z (cond t (rounded z Down (n * B ^ bias) 1) None)) (le-leb n (2 ^ 62) h)
+  lower_is : (n : ℕ) → n ≤ 2 ^ 62 → lower_whole {g = g} n ≡ or_zero {g = g} (rounded {g = g} Down (n * g.BASE ^ g.BIAS) 1)
+  lower_is n h = ap (λ t. or_zero {g = g} (cond t (rounded {g = g} Down (n * g.BASE ^ g.BIAS) 1) None)) (le-leb n (2 ^ 62) h)
 
-  upper_is : (n : ℕ) → n ≤ 2 ^ 62 → upper_whole z n ≡ rounded z Up (n * B ^ bias) 1
-  upper_is n h = ap (λ t. cond t (rounded z Up (n * B ^ bias) 1) None) (le-leb n (2 ^ 62) h)
+  upper_is : (n : ℕ) → n ≤ 2 ^ 62 → upper_whole {g = g} n ≡ rounded {g = g} Up (n * g.BASE ^ g.BIAS) 1
+  upper_is n h = ap (λ t. cond t (rounded {g = g} Up (n * g.BASE ^ g.BIAS) 1) None) (le-leb n (2 ^ 62) h)
 
   one : 0 < 1
   one = omega arith
@@ -113,8 +113,8 @@ module _ {B S W bias : ℕ} (z : Radix B S W bias) where
   whole_in : (n : ℕ) → n ≤ 2 ^ 62 → Encloses m (m.from_whole n) (whole n)
   whole_in n h =
       record {
-        low = subst (λ (e : End B S W bias). value e ≼ whole n) (sym (lower_is n h)) (exact_below z (whole n) _ 1 one (whole_is n));
-        high = subst (λ (o : Option (End B S W bias)). Below (whole n) (bound o)) (sym (upper_is n h)) (exact_above z (whole n) _ 1 one (whole_is n));
+        low = subst (λ (e : End R g). value e ≼ whole n) (sym (lower_is n h)) (exact_below g (whole n) _ 1 one (whole_is n));
+        high = subst (λ (o : Option (End R g)). Below (whole n) (bound o)) (sym (upper_is n h)) (exact_above g (whole n) _ 1 one (whole_is n));
       }
 
   whole_huge : (n : ℕ) → n ≤ 2 ^ 62 → whole n ≼ huge
@@ -124,84 +124,84 @@ module _ {B S W bias : ℕ} (z : Radix B S W bias) where
   whole_fine : (n : ℕ) → n ≤ 2 ^ 62 → Fine m (whole 0) (whole n) (whole n) (m.from_whole n)
   whole_fine n h = fine_by (whole n) (whole n) (whole 0) _ 1 _ 1 one one (whole_is n) (whole_is n) (whole_huge n h) (whole_huge n h) (m.from_whole n) (lower_is n h) (upper_is n h)
 
-  sum_high : (h k : Option (End B S W bias)) (x y : Fraction) → Below x (bound h) → Below y (bound k) → Below (x ⊕ y) (bound (upper_sum z h k))
-  sum_high (Some h) (Some k) x y p q = below_trans (bound (rounded z Up (units h + units k) 1)) (plus_le p q) (exact_above z (value h ⊕ value k) _ 1 one (sum_is h k))
+  sum_high : (h k : Option (End R g)) (x y : Fraction) → Below x (bound h) → Below y (bound k) → Below (x ⊕ y) (bound (upper_sum {g = g} h k))
+  sum_high (Some h) (Some k) x y p q = below_trans (bound (rounded {g = g} Up (units h + units k) 1)) (plus_le p q) (exact_above g (value h ⊕ value k) _ 1 one (sum_is h k))
   sum_high (Some h) None x y p q = tt
   sum_high None k x y p q = tt
 
-  product_high : (h k : Option (End B S W bias)) (x y : Fraction) → Below x (bound h) → Below y (bound k) → Below (x ⊗ y) (bound (upper_product z h k))
-  product_high (Some h) (Some k) x y p q = below_trans (bound (rounded z Up (units h * units k) (B ^ bias))) (times_le p q) (exact_above z (value h ⊗ value k) _ (B ^ bias) (power_pos z bias) (product_is h k))
+  product_high : (h k : Option (End R g)) (x y : Fraction) → Below x (bound h) → Below y (bound k) → Below (x ⊗ y) (bound (upper_product {g = g} h k))
+  product_high (Some h) (Some k) x y p q = below_trans (bound (rounded {g = g} Up (units h * units k) (g.BASE ^ g.BIAS))) (times_le p q) (exact_above g (value h ⊗ value k) _ (g.BASE ^ g.BIAS) (power_pos g.lawful g.BIAS) (product_is h k))
   product_high (Some h) None x y p q = tt
   product_high None k x y p q = tt
 
-  excess_low : (a : End B S W bias) (k : Option (End B S W bias)) (x y : Fraction) → value a ≼ x → Below y (bound k) → value (lower_excess z a k) ≼ x ⊖ y
-  excess_low a (Some k) x y p q = le_trans (exact_below z (value a ⊖ value k) _ 1 one (excess_is a k)) (excess_le p q)
+  excess_low : (a : End R g) (k : Option (End R g)) (x y : Fraction) → value a ≼ x → Below y (bound k) → value (lower_excess {g = g} a k) ≼ x ⊖ y
+  excess_low a (Some k) x y p q = le_trans (exact_below g (value a ⊖ value k) _ 1 one (excess_is a k)) (excess_le p q)
   excess_low a None x y p q = zero_below (x ⊖ y)
 
-  excess_high : (h : Option (End B S W bias)) (b : End B S W bias) (x y : Fraction) → Below x (bound h) → value b ≼ y → Below (x ⊖ y) (bound (upper_excess z h b))
-  excess_high (Some h) b x y p q = below_trans (bound (rounded z Up (units h - units b) 1)) (excess_le p q) (exact_above z (value h ⊖ value b) _ 1 one (excess_is h b))
+  excess_high : (h : Option (End R g)) (b : End R g) (x y : Fraction) → Below x (bound h) → value b ≼ y → Below (x ⊖ y) (bound (upper_excess {g = g} h b))
+  excess_high (Some h) b x y p q = below_trans (bound (rounded {g = g} Up (units h - units b) 1)) (excess_le p q) (exact_above g (value h ⊖ value b) _ 1 one (excess_is h b))
   excess_high None b x y p q = tt
 
-  quotient_low : (a : End B S W bias) (k : Option (End B S W bias)) (x y : Fraction) → 0 < y.num → value a ≼ x → Below y (bound k) → value (lower_quotient z a k) ≼ x ⊘ y
+  quotient_low : (a : End R g) (k : Option (End R g)) (x y : Fraction) → 0 < y.num → value a ≼ x → Below y (bound k) → value (lower_quotient {g = g} a k) ≼ x ⊘ y
   quotient_low a (Some k) x y pos p q =
       let some = above_zero pos q in
-      subst (λ (o : Option (End B S W bias)). value (or_zero z o) ≼ x ⊘ y) (sym (divided_is (units a) (units k) some))
-      (le_trans (exact_below z (value a ⊘ value k) _ (units k) some (quotient_is a k some)) (over_le pos p q))
+      subst (λ (o : Option (End R g)). value (or_zero {g = g} o) ≼ x ⊘ y) (sym (divided_is (units a) (units k) some))
+      (le_trans (exact_below g (value a ⊘ value k) _ (units k) some (quotient_is a k some)) (over_le pos p q))
   quotient_low a None x y pos p q = zero_below (x ⊘ y)
 
-  quotient_high : (h : Option (End B S W bias)) (b : End B S W bias) (x y : Fraction) → Below x (bound h) → value b ≼ y → Below (x ⊘ y) (bound (upper_quotient z h b))
+  quotient_high : (h : Option (End R g)) (b : End R g) (x y : Fraction) → Below x (bound h) → value b ≼ y → Below (x ⊘ y) (bound (upper_quotient {g = g} h b))
   quotient_high (Some h) b x y p q =
       dite (dec_le 1 (units b))
       (λ some.
-      subst (λ (o : Option (End B S W bias)). Below (x ⊘ y) (bound o)) (sym (divided_up (units h) (units b) some))
-      (below_trans (bound (rounded z Up (units h * B ^ bias) (units b))) (over_le some p q) (exact_above z (value h ⊘ value b) _ (units b) some (quotient_is h b some))))
+      subst (λ (o : Option (End R g)). Below (x ⊘ y) (bound o)) (sym (divided_up (units h) (units b) some))
+      (below_trans (bound (rounded {g = g} Up (units h * g.BASE ^ g.BIAS) (units b))) (over_le some p q) (exact_above g (value h ⊘ value b) _ (units b) some (quotient_is h b some))))
       (λ none.
-      subst (λ (t : Bool). Below (x ⊘ y) (bound (cond t None (rounded z Up (units h * B ^ bias) (units b))))) (sym (eq-eqb (units b) 0 (let l = lt_of_not-le none in omega arith))) tt)
+      subst (λ (t : Bool). Below (x ⊘ y) (bound (cond t None (rounded {g = g} Up (units h * g.BASE ^ g.BIAS) (units b))))) (sym (eq-eqb (units b) 0 (let l = lt_of_not-le none in omega arith))) tt)
   quotient_high None b x y p q = tt
 
   -- one of the two ends
-  pick : (P : End B S W bias → Type 0) (t : Bool) (a b : End B S W bias) → P a → P b → P (cond t a b)
+  pick : (P : End R g → Type 0) (t : Bool) (a b : End R g) → P a → P b → P (cond t a b)
   pick P true a b p q = p
   pick P false a b p q = q
 
-  smaller_low : (a b : End B S W bias) → value (smaller_end a b) ≼ value a ⊓ value b
+  smaller_low : (a b : End R g) → value (smaller_end a b) ≼ value a ⊓ value b
   smaller_low a b =
       let u = smaller_units a b in
-      le_smaller (record { cross = mul-le-mul_right (B ^ bias) (let h : units (smaller_end a b) ≤ units a = omega arith in h) })
-      (record { cross = mul-le-mul_right (B ^ bias) (let h : units (smaller_end a b) ≤ units b = omega arith in h) })
+      le_smaller (record { cross = mul-le-mul_right (g.BASE ^ g.BIAS) (let h : units (smaller_end a b) ≤ units a = omega arith in h) })
+      (record { cross = mul-le-mul_right (g.BASE ^ g.BIAS) (let h : units (smaller_end a b) ≤ units b = omega arith in h) })
 
-  larger_high : (a b : End B S W bias) → value a ⊔ value b ≼ value (larger_end a b)
+  larger_high : (a b : End R g) → value a ⊔ value b ≼ value (larger_end a b)
   larger_high a b =
       let u = larger_units a b in
-      larger_le (record { cross = mul-le-mul_right (B ^ bias) (let h : units a ≤ units (larger_end a b) = omega arith in h) })
-      (record { cross = mul-le-mul_right (B ^ bias) (let h : units b ≤ units (larger_end a b) = omega arith in h) })
+      larger_le (record { cross = mul-le-mul_right (g.BASE ^ g.BIAS) (let h : units a ≤ units (larger_end a b) = omega arith in h) })
+      (record { cross = mul-le-mul_right (g.BASE ^ g.BIAS) (let h : units b ≤ units (larger_end a b) = omega arith in h) })
 
-  smaller_same : (a b : End B S W bias) → Same (value (smaller_end a b)) (value a ⊓ value b)
+  smaller_same : (a b : End R g) → Same (value (smaller_end a b)) (value a ⊓ value b)
   smaller_same a b =
       record {
         to = smaller_low a b;
         from = pick (λ e. value a ⊓ value b ≼ value e) (nat_le (units a) (units b)) a b (smaller_first (value a) (value b)) (smaller_second (value a) (value b));
       }
 
-  larger_same : (a b : End B S W bias) → Same (value (larger_end a b)) (value a ⊔ value b)
+  larger_same : (a b : End R g) → Same (value (larger_end a b)) (value a ⊔ value b)
   larger_same a b =
       record {
         to = pick (λ e. value e ≼ value a ⊔ value b) (nat_le (units a) (units b)) b a (larger_second (value a) (value b)) (larger_first (value a) (value b));
         from = larger_high a b;
       }
 
-  smaller_high : (h k : Option (End B S W bias)) (x y : Fraction) → Below x (bound h) → Below y (bound k) → Below (x ⊓ y) (bound (smaller_upper h k))
+  smaller_high : (h k : Option (End R g)) (x y : Fraction) → Below x (bound h) → Below y (bound k) → Below (x ⊓ y) (bound (smaller_upper h k))
   smaller_high (Some h) (Some k) x y p q = le_trans (smaller_mono p q) (smaller_same h k).from
   smaller_high (Some h) None x y p q = le_trans (smaller_first x y) p
   smaller_high None (Some k) x y p q = le_trans (smaller_second x y) q
   smaller_high None None x y p q = tt
 
-  larger_top : (h k : Option (End B S W bias)) (x y : Fraction) → Below x (bound h) → Below y (bound k) → Below (x ⊔ y) (bound (larger_upper h k))
+  larger_top : (h k : Option (End R g)) (x y : Fraction) → Below x (bound h) → Below y (bound k) → Below (x ⊔ y) (bound (larger_upper h k))
   larger_top (Some h) (Some k) x y p q = le_trans (larger_mono p q) (larger_same h k).from
   larger_top (Some h) None x y p q = tt
   larger_top None k x y p q = tt
 
-  module _ (a b : Enclosure B S W bias) (h k : Fraction) (ba : Bounded m a h) (bb : Bounded m b k) where
+  module _ (a b : Enclosure R g) (h k : Fraction) (ba : Bounded m a h) (bb : Bounded m b k) where
     top_a : Capped a.upper h
     top_a = capped a.upper h ba.is
 
@@ -217,16 +217,16 @@ module _ {B S W bias : ℕ} (z : Radix B S W bias) where
         let x = top_a.end in
         let y = top_b.end in
         subst (λ (f : Fraction). f ≼ huge → Fine m (whole 0) (value a.lower ⊕ value b.lower) f (m.sum a b)) (by_tops ◌⊕◌)
-        (λ p. fine_by _ _ (whole 0) _ 1 _ 1 one one (sum_is a.lower b.lower) (sum_is x y) pl p (m.sum a b) refl (ap (λ o. upper_sum z o b.upper) top_a.is ∙ ap (λ o. upper_sum z (Some x) o) top_b.is))
+        (λ p. fine_by _ _ (whole 0) _ 1 _ 1 one one (sum_is a.lower b.lower) (sum_is x y) pl p (m.sum a b) refl (ap (λ o. upper_sum {g = g} o b.upper) top_a.is ∙ ap (λ o. upper_sum {g = g} (Some x) o) top_b.is))
         ph
 
     product_fine : value a.lower ⊗ value b.lower ≼ huge → h ⊗ k ≼ huge → Fine m (whole 0) (value a.lower ⊗ value b.lower) (h ⊗ k) (m.product a b)
     product_fine pl ph =
         let x = top_a.end in
         let y = top_b.end in
-        let u = power_pos z bias in
+        let u = power_pos g.lawful g.BIAS in
         subst (λ (f : Fraction). f ≼ huge → Fine m (whole 0) (value a.lower ⊗ value b.lower) f (m.product a b)) (by_tops ◌⊗◌)
-        (λ p. fine_by _ _ (whole 0) _ (B ^ bias) _ (B ^ bias) u u (product_is a.lower b.lower) (product_is x y) pl p (m.product a b) refl (ap (λ o. upper_product z o b.upper) top_a.is ∙ ap (λ o. upper_product z (Some x) o) top_b.is))
+        (λ p. fine_by _ _ (whole 0) _ (g.BASE ^ g.BIAS) _ (g.BASE ^ g.BIAS) u u (product_is a.lower b.lower) (product_is x y) pl p (m.product a b) refl (ap (λ o. upper_product {g = g} o b.upper) top_a.is ∙ ap (λ o. upper_product {g = g} (Some x) o) top_b.is))
         ph
 
     excess_fine : Fine m h (value a.lower ⊖ k) (h ⊖ value b.lower) (m.excess a b)
@@ -235,19 +235,19 @@ module _ {B S W bias : ℕ} (z : Radix B S W bias) where
         let y = top_b.end in
         subst (λ (f : Fraction). Fine m h (value a.lower ⊖ f) (h ⊖ value b.lower) (m.excess a b)) top_b.same
         (subst (λ (f : Fraction). f ≼ huge → Fine m h (value a.lower ⊖ value y) (f ⊖ value b.lower) (m.excess a b)) top_a.same
-        (λ p. fine_by _ _ h _ 1 _ 1 one one (excess_is a.lower y) (excess_is x b.lower) (le_trans (excess_first (value a.lower) (value y)) ba.low) (le_trans (excess_first (value x) (value b.lower)) p) (m.excess a b) (ap (λ o. lower_excess z a.lower o) top_b.is) (ap (λ o. upper_excess z o b.lower) top_a.is))
+        (λ p. fine_by _ _ h _ 1 _ 1 one one (excess_is a.lower y) (excess_is x b.lower) (le_trans (excess_first (value a.lower) (value y)) ba.low) (le_trans (excess_first (value x) (value b.lower)) p) (m.excess a b) (ap (λ o. lower_excess {g = g} a.lower o) top_b.is) (ap (λ o. upper_excess {g = g} o b.lower) top_a.is))
         ba.high)
 
     quotient_fine : 0 < units b.lower → value a.lower ⊘ k ≼ huge → h ⊘ value b.lower ≼ huge → Fine m (whole 0) (value a.lower ⊘ k) (h ⊘ value b.lower) (m.quotient a b)
     quotient_fine some pl ph =
         let x = top_a.end in
         let y = top_b.end in
-        let some_y : 0 < units y = let o : Ordered b.lower (Some y) = subst (λ (o : Option (End B S W bias)). Ordered b.lower o) top_b.is (is_ordered b) in more (units b.lower) (units y) some o in
+        let some_y : 0 < units y = let o : Ordered b.lower (Some y) = subst (λ (o : Option (End R g)). Ordered b.lower o) top_b.is (is_ordered b) in more (units b.lower) (units y) some o in
         subst (λ (f : Fraction). f ≼ huge → Fine m (whole 0) (value a.lower ⊘ k) f (m.quotient a b)) (ap (λ v. v ⊘ value b.lower) top_a.same)
         (λ p. subst (λ (f : Fraction). f ≼ huge → Fine m (whole 0) f (value x ⊘ value b.lower) (m.quotient a b)) (ap (λ v. value a.lower ⊘ v) top_b.same)
         (λ q. fine_by _ _ (whole 0) _ (units y) _ (units b.lower) some_y some (quotient_is a.lower y some_y) (quotient_is x b.lower some) q p (m.quotient a b)
-        (ap (λ o. lower_quotient z a.lower o) top_b.is ∙ ap (or_zero z) (divided_is (units a.lower) (units y) some_y))
-        (ap (λ o. upper_quotient z o b.lower) top_a.is ∙ divided_up (units x) (units b.lower) some))
+        (ap (λ o. lower_quotient {g = g} a.lower o) top_b.is ∙ ap (or_zero {g = g}) (divided_is (units a.lower) (units y) some_y))
+        (ap (λ o. upper_quotient {g = g} o b.lower) top_a.is ∙ divided_up (units x) (units b.lower) some))
         pl)
         ph
 
@@ -276,18 +276,18 @@ module _ {B S W bias : ℕ} (z : Radix B S W bias) where
   pub sound_of : Sound m
   sound_of =
       record {
-        least_fineness = z.1.0;
-        most_fineness = let w = wider z in let l = z.1.1 in omega arith;
+        least_fineness = g.lawful.1.0;
+        most_fineness = let w = wider g.lawful in let l = g.lawful.1.1 in omega arith;
         ordered = λ e. enclosure_ordered e.lower e.upper (is_ordered e);
         whole_in = whole_in;
         whole_fine = whole_fine;
         sum_in = λ a b x y p q. record {
-          low = le_trans (exact_below z (value a.lower ⊕ value b.lower) _ 1 one (sum_is a.lower b.lower)) (plus_le p.low q.low);
+          low = le_trans (exact_below g (value a.lower ⊕ value b.lower) _ 1 one (sum_is a.lower b.lower)) (plus_le p.low q.low);
           high = sum_high a.upper b.upper x y p.high q.high;
         };
         sum_fine = λ a b h k p q. sum_fine a b h k p q;
         product_in = λ a b x y p q. record {
-          low = le_trans (exact_below z (value a.lower ⊗ value b.lower) _ (B ^ bias) (power_pos z bias) (product_is a.lower b.lower)) (times_le p.low q.low);
+          low = le_trans (exact_below g (value a.lower ⊗ value b.lower) _ (g.BASE ^ g.BIAS) (power_pos g.lawful g.BIAS) (product_is a.lower b.lower)) (times_le p.low q.low);
           high = product_high a.upper b.upper x y p.high q.high;
         };
         product_fine = λ a b h k p q. product_fine a b h k p q;

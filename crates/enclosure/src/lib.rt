@@ -1,7 +1,7 @@
 //! What an enclosure arithmetic is: the operations, the laws that each implementation shows, and reading out.
 #![tactic(auto)]
 
-ghost use Rattle.std.specs.Prelude.{◌≡◌};
+ghost use Rattle.std.specs.Prelude.{◌≡◌, ℕ};
 ghost use Rattle.enclosure.specs.Answer.{number, compared};
 ghost use Rattle.enclosure.specs.Model.{Model, Sound};
 ghost use Rattle.enclosure.specs.Readings.{read_below, read_above};
@@ -9,6 +9,7 @@ ghost use Rattle.enclosure.specs.Formula.{computed, wide_of};
 ghost use Rattle.enclosure.specs.Theorems.{FormulasClose, ComparisonsTell, WideNumbersHold, ReadingsBound, LawsCanBeMet};
 
 /// What comparing "at most" answers.
+// An Option<bool> has this shape, but would not say which of its three values is which.
 #[derive(Clone, Copy, PartialEq, Eq, Debug)]
 pub enum Comparison {
     Yes,
@@ -18,14 +19,12 @@ pub enum Comparison {
 
 /// An arithmetic on enclosures: each result contains the exact result, and its ends are within 1 / `FINENESS` of it.
 pub trait Arithmetic: Copy {
+    ghost FINENESS: { ℕ };
+
     /// The fineness W, from 10^6 to 10^12.
     const FINENESS: u64;
 
     ghost model: { Model Self };
-
-    /// The fineness, as the model has it.
-    fn stated_fineness() -> u64
-        ensures { result ≡ model.fineness };
 
     /// The whole number `n`; its laws speak of numbers up to 2^62.
     fn whole(n: u64) -> Self
@@ -53,6 +52,8 @@ pub trait Arithmetic: Copy {
     /// Whether this is at most the other.
     fn at_most(self, other: Self) -> Comparison
         ensures { number result ≡ compared model self other };
+
+    ghost stated_fineness: { FINENESS ≡ model.fineness };
 
     ghost sound: { Sound model };
 }
@@ -85,36 +86,27 @@ pub fn wide<A: Arithmetic>(n: u128) -> A
 // The theorems of this crate: each stands on the contract of a function, so that a check asks for its proof.
 
 /// What an arithmetic computes from whole numbers is close to the exact fraction.
-pub fn formulas_stay_close<E>() -> u8
+pub fn formulas_stay_close<E>()
     ensures { FormulasClose E }
-{
-    0
-}
+{}
 
 /// Comparing two close enclosures tells how the exact fractions compare.
-pub fn comparisons_tell<E>() -> u8
+pub fn comparisons_tell<E>()
     ensures { ComparisonsTell E }
-{
-    0
-}
+{}
 
 /// A number of up to 128 bits is contained in what `wide` makes of it, and up to 10^35 it is close.
-pub fn wide_numbers_hold<E>() -> u8
+pub fn wide_numbers_hold<E>()
     ensures { WideNumbersHold E }
-{
-    0
-}
+{}
 
 /// The exact fractions meet the laws, so that the promises are not empty.
-pub fn laws_can_be_met() -> u8
+#[tactic(auto, using(crate::proofs::Exact::laws_met))]
+pub fn laws_can_be_met()
     ensures { LawsCanBeMet }
-{
-    0
-}
+{}
 
 /// What is read out of an enclosure bounds each number that it contains.
-pub fn readings_bound<E>() -> u8
+pub fn readings_bound<E>()
     ensures { ReadingsBound E }
-{
-    0
-}
+{}

@@ -7,6 +7,7 @@ use Rattle.rounding.specs.Radix.{Radix}
 use Rattle.rounding.specs.Cut.{cut}
 use Rattle.rounding.specs.Placed.{Stands}
 use Rattle.rounding.specs.Rounded.{surplus, slight, rounded, whole_end, zero_end, full_end, wider}
+use Rattle.rounding.specs.declared.radix.Radix.{Ghosts}
 use Rattle.rounding.specs.declared.rounding.Rounding.{Rounding}
 use Rattle.rounding.specs.declared.rounding.Rounding.TheVariants.{Down, Up}
 use Rattle.rounding.specs.declared.end.End.{End}
@@ -103,70 +104,8 @@ module _ {B S W bias : ℕ} (z : Radix B S W bias) (t : Rounding) (N u : ℕ) (p
       (subst (λ (x : ℕ). x < W * B) (sym (cut_again e)) h)
       (λ i l. subst (λ (x : ℕ). W * B ≤ x) (sym (cut_again i)) (f i l))
 
-  abbrev tail : (n e : ℕ) → Option (End B S W bias)
-  tail n e = cond (ltb (2 * bias) e) None (Some (full_end z (cut t n (B ^ e)) e))
-
-  large : W ≤ cut t N u → (e : ℕ) → surplus t B (W * B) (cut t N u) (cut t N u) ≡ e → rounded z t N u ≡ tail (cut t N u) e
-  unfolding rounded
-  large w e s =
-      ap (λ x. cond x (Some (slight z t (cut t N u))) (tail (cut t N u) (surplus t B (W * B) (cut t N u) (cut t N u)))) (le-ltb _ _ w)
-      ∙ ap (λ x. tail (cut t N u) x) s
-
-  pub rounded_full : (e : ℕ) → W ≤ cut t N u → Fills e → cut t N (u * B ^ e) < W * B → e ≤ 2 * bias → rounded z t N u ≡ Some (full_end z (cut t N (u * B ^ e)) e)
-  rounded_full e w f h top =
-      large w e (surplus_at e f h)
-      ∙ ap (λ x. cond x None (Some (full_end z (cut t (cut t N u) (B ^ e)) e))) (le-ltb _ _ top)
-      ∙ ap (λ x. Some (full_end z x e)) (cut_again e)
-
-  pub rounded_past : (e : ℕ) → W ≤ cut t N u → Fills e → cut t N (u * B ^ e) < W * B → 2 * bias < e → rounded z t N u ≡ None
-  rounded_past e w f h top =
-      large w e (surplus_at e f h)
-      ∙ ap (λ x. cond x None (Some (full_end z (cut t (cut t N u) (B ^ e)) e))) (lt-ltb _ _ top)
-
-module _ {B S W bias : ℕ} (z : Radix B S W bias) (N u : ℕ) (pu : 0 < u) where
-  small : (t : Rounding) → cut t N u < W → rounded z t N u ≡ Some (slight z t (cut t N u))
-  unfolding rounded
-  small t h =
-      let n = cut t N u in
-      let e = surplus t B (W * B) n n in
-      ap (λ x. cond x (Some (slight z t n)) (cond (ltb (2 * bias) e) None (Some (full_end z (cut t n (B ^ e)) e)))) (lt-ltb _ _ h)
-
-  -- below the least end above 0
-  pub rounded_slight_down : N < W * u → rounded z Down N u ≡ Some (zero_end z)
-  rounded_slight_down h = small Down (cut_below N u W pu h)
-
-  pub rounded_slight_up : 0 < N → N ≤ W * u → rounded z Up N u ≡ Some (full_end z W 0)
-  rounded_slight_up some h =
-      let q = cut_most Up N u W pu h in
-      let p = cut_some N u pu some in
-      dite (dec_le (suc (cut Up N u)) W)
-      (λ l. small Up l ∙ ap (λ x. Some (cond x (zero_end z) (full_end z W 0))) (ne_eqb (cut Up N u) 0 (λ e. omega arith)))
-      (λ g. let e : cut Up N u ≡ W = let g' = lt_of_not-le g in omega arith in
-      let w = wider z in
-      let one : cut Up N (u * B ^ 0) ≡ W = ap (λ x. cut Up N (u * x)) (pow-zero B) ∙ ap (λ x. cut Up N x) (mul-one u) ∙ e in
-      rounded_full z Up N u pu 0 (omega arith) (λ i l. absurd (omega arith)) (omega (arith, one)) (omega arith)
-      ∙ ap (λ x. Some (full_end z x 0)) one)
-
-  pub rounded_none : (t : Rounding) → N ≡ 0 → rounded z t N u ≡ Some (zero_end z)
-  rounded_none t e = by t
-    where
-      none : (t : Rounding) → cut t N u ≡ 0
-      none t = let q = cut_most t N u 0 pu (omega arith) in omega arith
-
-      by : (t : Rounding) → rounded z t N u ≡ Some (zero_end z)
-      by Down = rounded_slight_down (let p = mul-pos {m = W} {n = u} (omega arith) pu in omega arith)
-      by Up = small Up (omega (arith, none Up)) ∙ ap (λ x. Some (cond x (zero_end z) (full_end z W 0))) (eq-eqb _ _ (none Up))
-
 -- digits at an exponent that a quantity comes to
 module _ {B S W bias : ℕ} (z : Radix B S W bias) (t : Rounding) (N u m e : ℕ) where
-  pub stands_full : Stands B W t N u m e → m < W * B → e ≤ 2 * bias → rounded z t N u ≡ Some (full_end z m e)
-  stands_full s h top =
-      rounded_full z t N u s.some e s.large s.fills (subst (λ (x : ℕ). x < W * B) s.is h) top
-      ∙ ap (λ x. Some (full_end z x e)) (sym s.is)
-
-  pub stands_past : Stands B W t N u m e → m < W * B → 2 * bias < e → rounded z t N u ≡ None
-  stands_past s h top = rounded_past z t N u s.some e s.large s.fills (subst (λ (x : ℕ). x < W * B) s.is h) top
-
   -- one digit more cut off
   pub stands_carried : Stands B W t N u m e → W * B ≤ m → Stands B W t N u (cut t m B) (e + 1)
   stands_carried s h =
@@ -187,5 +126,69 @@ module _ {B S W bias : ℕ} (z : Radix B S W bias) (t : Rounding) (N u m e : ℕ
         fills = fills z t N u pu e h;
       }
 
-pub whole_within : {B S W bias : ℕ} (z : Radix B S W bias) (t : Rounding) (n : ℕ) → n ≤ 2 ^ 62 → whole_end z t n ≡ rounded z t (n * B ^ bias) 1
-whole_within {B} {S} {W} {bias} z t n h = ap (λ x. cond x (rounded z t (n * B ^ bias) 1) None) (le-leb n (2 ^ 62) h)
+module _ {R : Type 0} (g : Ghosts R) (t : Rounding) (N u : ℕ) (pu : 0 < u) where
+  abbrev tail : (n e : ℕ) → Option (End R g)
+  tail n e = cond (ltb (2 * g.BIAS) e) None (Some (full_end {g = g} (cut t n (g.BASE ^ e)) e))
+
+  large : g.FULL ≤ cut t N u → (e : ℕ) → surplus t g.BASE (g.FULL * g.BASE) (cut t N u) (cut t N u) ≡ e → rounded {g = g} t N u ≡ tail (cut t N u) e
+  unfolding rounded
+  large w e s =
+      ap (λ x. cond x (Some (slight {g = g} t (cut t N u))) (tail (cut t N u) (surplus t g.BASE (g.FULL * g.BASE) (cut t N u) (cut t N u)))) (le-ltb _ _ w)
+      ∙ ap (λ x. tail (cut t N u) x) s
+
+  pub rounded_full : (e : ℕ) → g.FULL ≤ cut t N u → Fills g.lawful t N u pu e → cut t N (u * g.BASE ^ e) < g.FULL * g.BASE → e ≤ 2 * g.BIAS → rounded {g = g} t N u ≡ Some (full_end {g = g} (cut t N (u * g.BASE ^ e)) e)
+  rounded_full e w f h top =
+      large w e (surplus_at g.lawful t N u pu e f h)
+      ∙ ap (λ x. cond x None (Some (full_end {g = g} (cut t (cut t N u) (g.BASE ^ e)) e))) (le-ltb _ _ top)
+      ∙ ap (λ x. Some (full_end {g = g} x e)) (cut_again g.lawful t N u pu e)
+
+  pub rounded_past : (e : ℕ) → g.FULL ≤ cut t N u → Fills g.lawful t N u pu e → cut t N (u * g.BASE ^ e) < g.FULL * g.BASE → 2 * g.BIAS < e → rounded {g = g} t N u ≡ None
+  rounded_past e w f h top =
+      large w e (surplus_at g.lawful t N u pu e f h)
+      ∙ ap (λ x. cond x None (Some (full_end {g = g} (cut t (cut t N u) (g.BASE ^ e)) e))) (lt-ltb _ _ top)
+
+module _ {R : Type 0} (g : Ghosts R) (N u : ℕ) (pu : 0 < u) where
+  small : (t : Rounding) → cut t N u < g.FULL → rounded {g = g} t N u ≡ Some (slight {g = g} t (cut t N u))
+  unfolding rounded
+  small t h =
+      let n = cut t N u in
+      let e = surplus t g.BASE (g.FULL * g.BASE) n n in
+      ap (λ x. cond x (Some (slight {g = g} t n)) (cond (ltb (2 * g.BIAS) e) None (Some (full_end {g = g} (cut t n (g.BASE ^ e)) e)))) (lt-ltb _ _ h)
+
+  -- below the least end above 0
+  pub rounded_slight_down : N < g.FULL * u → rounded {g = g} Down N u ≡ Some (zero_end {g = g})
+  rounded_slight_down h = small Down (cut_below N u g.FULL pu h)
+
+  pub rounded_slight_up : 0 < N → N ≤ g.FULL * u → rounded {g = g} Up N u ≡ Some (full_end {g = g} g.FULL 0)
+  rounded_slight_up some h =
+      let q = cut_most Up N u g.FULL pu h in
+      let p = cut_some N u pu some in
+      dite (dec_le (suc (cut Up N u)) g.FULL)
+      (λ l. small Up l ∙ ap (λ x. Some (cond x (zero_end {g = g}) (full_end {g = g} g.FULL 0))) (ne_eqb (cut Up N u) 0 (λ e. omega arith)))
+      (λ m. let e : cut Up N u ≡ g.FULL = let l = lt_of_not-le m in omega arith in
+      let w = wider g.lawful in
+      let one : cut Up N (u * g.BASE ^ 0) ≡ g.FULL = ap (λ x. cut Up N (u * x)) (pow-zero g.BASE) ∙ ap (λ x. cut Up N x) (mul-one u) ∙ e in
+      rounded_full g Up N u pu 0 (omega arith) (λ i l. absurd (omega arith)) (omega (arith, one)) (omega arith)
+      ∙ ap (λ x. Some (full_end {g = g} x 0)) one)
+
+  pub rounded_none : (t : Rounding) → N ≡ 0 → rounded {g = g} t N u ≡ Some (zero_end {g = g})
+  rounded_none t e = by t
+    where
+      none : (t : Rounding) → cut t N u ≡ 0
+      none t = let q = cut_most t N u 0 pu (omega arith) in omega arith
+
+      by : (t : Rounding) → rounded {g = g} t N u ≡ Some (zero_end {g = g})
+      by Down = rounded_slight_down (let p = mul-pos {m = g.FULL} {n = u} (omega arith) pu in omega arith)
+      by Up = small Up (omega (arith, none Up)) ∙ ap (λ x. Some (cond x (zero_end {g = g}) (full_end {g = g} g.FULL 0))) (eq-eqb _ _ (none Up))
+
+module _ {R : Type 0} (g : Ghosts R) (t : Rounding) (N u m e : ℕ) where
+  pub stands_full : Stands g.BASE g.FULL t N u m e → m < g.FULL * g.BASE → e ≤ 2 * g.BIAS → rounded {g = g} t N u ≡ Some (full_end {g = g} m e)
+  stands_full s h top =
+      rounded_full g t N u s.some e s.large s.fills (subst (λ (x : ℕ). x < g.FULL * g.BASE) s.is h) top
+      ∙ ap (λ x. Some (full_end {g = g} x e)) (sym s.is)
+
+  pub stands_past : Stands g.BASE g.FULL t N u m e → m < g.FULL * g.BASE → 2 * g.BIAS < e → rounded {g = g} t N u ≡ None
+  stands_past s h top = rounded_past g t N u s.some e s.large s.fills (subst (λ (x : ℕ). x < g.FULL * g.BASE) s.is h) top
+
+pub whole_within : {R : Type 0} (g : Ghosts R) (t : Rounding) (n : ℕ) → n ≤ 2 ^ 62 → whole_end {g = g} t n ≡ rounded {g = g} t (n * g.BASE ^ g.BIAS) 1
+whole_within g t n h = ap (λ x. cond x (rounded {g = g} t (n * g.BASE ^ g.BIAS) 1) None) (le-leb n (2 ^ 62) h)

@@ -5,9 +5,10 @@ use Rattle.rounding.specs.Radix.{Radix}
 use Rattle.rounding.specs.Cut.{cut}
 use Rattle.rounding.specs.Placed.{Stands, Scales}
 use Rattle.rounding.specs.Rounded.{wider, units, rounded, divided}
+use Rattle.rounding.specs.declared.radix.Radix.{Ghosts}
 use Rattle.rounding.specs.declared.rounding.Rounding.{Rounding}
 use Rattle.rounding.specs.declared.end.End.{End}
-use Rattle.rounding.proofs.Cuts.{cut_terms}
+use Rattle.rounding.proofs.Cuts.{cut_least, cut_most, cut_terms}
 use Rattle.rounding.proofs.Ends.{base_pos, power_pos}
 use Rattle.rounding.proofs.Rounds.{stands}
 
@@ -46,6 +47,14 @@ module _ {B S W bias : ℕ} (z : Radix B S W bias) (t : Rounding) (N u P Q m fro
       (s.is ∙ cut_terms t P Q N (u * B ^ e) s.parts (mul-pos s.some (power_pos z e)) (sym short))
       (le_of_mul-le-mul_right {k = Q} (omega (arith, short, mul-le-mul_right (u * B ^ e) s.least)) s.parts)
 
+-- it is a full significand, or the next power
+pub scales_fit : {B S W bias : ℕ} (z : Radix B S W bias) (t : Rounding) {N u P Q m from floor : ℕ} → Scales B W t N u P Q m from floor → (W ≤ m) × (m ≤ W * B)
+scales_fit {B} {S} {W} z t {P = P} {Q = Q} s =
+    let least = cut_least t P Q W s.parts s.least in
+    let most = cut_most t P Q (W * B) s.parts (le_of_lt s.most) in
+    let is = s.is in
+    (omega arith, omega arith)
+
 -- the products of two ends' digits
 module _ {B S W bias : ℕ} (z : Radix B S W bias) (t : Rounding) (da db ea eb k Q m : ℕ) where
   pub product_scales : B ^ k ≡ Q → m ≡ cut t (da * db) Q → W * Q ≤ da * db → da * db < W * B * Q → Scales B W t (da * B ^ ea * (db * B ^ eb)) (B ^ bias) (da * db) Q m (ea + eb + k) bias
@@ -75,17 +84,24 @@ module _ {B S W bias : ℕ} (z : Radix B S W bias) (t : Rounding) (da db ea eb k
         same = omega (arith, ap (λ x. da * F * x * (db * B ^ eb)) high, ap (λ x. da * B ^ ea * B ^ bias * (db * x)) low);
       }
 
--- the digits of two ends above 0
-module _ {B S W bias : ℕ} (a b : End B S W bias) where
-  pub limit_square : W * B * (W * B) ≤ 2 ^ 62
-  limit_square = let h = a.radix.1.1 in omega (arith, mul-le-mul h h)
+-- none of the product where the digits give none
+pub no_product : (x y p q : ℕ) → x * y ≡ 0 → x * p * (y * q) ≡ 0
+no_product x y p q e = omega (arith, ap (λ n. n * (p * q)) e)
 
-  pub product_most : a.digits * b.digits < W * B * (W * B)
+pub power_next : {B S W bias : ℕ} → Radix B S W bias → B ^ (S + 1) ≡ W * B
+power_next {B} {S} {W} z = ap (λ x. B ^ x) (let e : S + 1 ≡ suc S = omega arith in e) ∙ pow-suc B S ∙ ap (λ x. x * B) z.0.2
+
+-- the digits of two ends above 0
+module _ {R : Type 0} {g : Ghosts R} (a b : End R g) where
+  pub limit_square : g.FULL * g.BASE * (g.FULL * g.BASE) ≤ 2 ^ 62
+  limit_square = let h = g.lawful.1.1 in omega (arith, mul-le-mul h h)
+
+  pub product_most : a.digits * b.digits < g.FULL * g.BASE * (g.FULL * g.BASE)
   product_most =
       let f = a.few in
-      let g = b.few in
-      let w = wider a.radix in
-      omega (arith, mul-le-mul_left a.digits (le_of_lt g), mul-lt-mul_of_pos_right f (let p : 0 < W * B = omega arith in p))
+      let fb = b.few in
+      let w = wider g.lawful in
+      omega (arith, mul-le-mul_left a.digits (le_of_lt fb), mul-lt-mul_of_pos_right f (let p : 0 < g.FULL * g.BASE = omega arith in p))
 
   both_some : 0 < a.digits * b.digits → (0 < a.digits) × (0 < b.digits)
   both_some h = by a.digits b.digits h
@@ -95,36 +111,29 @@ module _ {B S W bias : ℕ} (a b : End B S W bias) where
       by (suc m) zero h = absurd (omega arith)
       by (suc m) (suc n) h = (omega arith, omega arith)
 
-  pub product_least : (a.digits * b.digits ≡ 0 → ⊥) → W * W ≤ a.digits * b.digits
+  pub product_least : (a.digits * b.digits ≡ 0 → ⊥) → g.FULL * g.FULL ≤ a.digits * b.digits
   product_least n =
       let s = both_some (omega arith) in
       mul-le-mul (a.full s.0) (b.full s.1)
 
--- none of the product where the digits give none
-pub no_product : (x y p q : ℕ) → x * y ≡ 0 → x * p * (y * q) ≡ 0
-no_product x y p q e = omega (arith, ap (λ n. n * (p * q)) e)
-
-pub power_next : {B S W bias : ℕ} → Radix B S W bias → B ^ (S + 1) ≡ W * B
-power_next {B} {S} {W} z = ap (λ x. B ^ x) (let e : S + 1 ≡ suc S = omega arith in e) ∙ pow-suc B S ∙ ap (λ x. x * B) z.0.2
-
 -- the digits of a quotient, raised by one digit more where the first are fewer
-module _ {B S W bias : ℕ} (a b : End B S W bias) where
-  pub quotient_low : 0 < a.digits → a.digits < b.digits → (W * b.digits ≤ a.digits * (W * B)) × (a.digits * (W * B) < W * B * b.digits)
+module _ {R : Type 0} {g : Ghosts R} (a b : End R g) where
+  pub quotient_low : 0 < a.digits → a.digits < b.digits → (g.FULL * b.digits ≤ a.digits * (g.FULL * g.BASE)) × (a.digits * (g.FULL * g.BASE) < g.FULL * g.BASE * b.digits)
   quotient_low some l =
-      let w = wider a.radix in
-      let pos : 0 < W * B = omega arith in (
-        omega (arith, mul-le-mul_right (W * B) (a.full some), mul-le-mul_left W (le_of_lt b.few)),
+      let w = wider g.lawful in
+      let pos : 0 < g.FULL * g.BASE = omega arith in (
+        omega (arith, mul-le-mul_right (g.FULL * g.BASE) (a.full some), mul-le-mul_left g.FULL (le_of_lt b.few)),
         omega (arith, mul-lt-mul_of_pos_right l pos),
       )
 
-  pub quotient_high : 0 < b.digits → b.digits ≤ a.digits → (W * b.digits ≤ a.digits * W) × (a.digits * W < W * B * b.digits)
+  pub quotient_high : 0 < b.digits → b.digits ≤ a.digits → (g.FULL * b.digits ≤ a.digits * g.FULL) × (a.digits * g.FULL < g.FULL * g.BASE * b.digits)
   quotient_high some l =
-      let pos : 0 < W = let z = a.radix in omega arith in (
-        omega (arith, mul-le-mul_right W l),
-        omega (arith, mul-lt-mul_of_pos_right a.few pos, mul-le-mul_left (W * B) (b.full some)),
+      let pos : 0 < g.FULL = let z = g.lawful in omega arith in (
+        omega (arith, mul-le-mul_right g.FULL l),
+        omega (arith, mul-lt-mul_of_pos_right a.few pos, mul-le-mul_left (g.FULL * g.BASE) (b.full some)),
       )
 
-  pub divided_by : (t : Rounding) → 0 < b.digits → divided a.radix t (units a) (units b) ≡ rounded a.radix t (units a * B ^ bias) (units b)
+  pub divided_by : (t : Rounding) → 0 < b.digits → divided {g = g} t (units a) (units b) ≡ rounded {g = g} t (units a * g.BASE ^ g.BIAS) (units b)
   divided_by t some =
-      let p = mul-pos some (power_pos a.radix b.exponent) in
-      ap (λ x. cond x None (rounded a.radix t (units a * B ^ bias) (units b))) (ne_eqb (units b) 0 (λ e. omega arith))
+      let p = mul-pos some (power_pos g.lawful b.exponent) in
+      ap (λ x. cond x None (rounded {g = g} t (units a * g.BASE ^ g.BIAS) (units b))) (ne_eqb (units b) 0 (λ e. omega arith))

@@ -7,6 +7,7 @@ use Rattle.rounding.specs.Radix.{Radix}
 use Rattle.rounding.specs.Cut.{cut, turned}
 use Rattle.rounding.specs.Placed.{Stands}
 use Rattle.rounding.specs.Rounded.{units, wider}
+use Rattle.rounding.specs.declared.radix.Radix.{Ghosts}
 use Rattle.rounding.specs.declared.rounding.Rounding.{Rounding}
 use Rattle.rounding.specs.declared.end.End.{End}
 use Rattle.rounding.proofs.Cuts.{cut_terms, cut_plus, cut_minus, cut_exact, cut_one, cut_least, cut_most}
@@ -62,34 +63,34 @@ module _ {B S W bias : ℕ} (z : Radix B S W bias) (t : Rounding) where
           let s = pow-add B bias k in
           cut_terms t (n * B ^ bias) (1 * B ^ (bias + k)) n (B ^ k) (subst (λ (x : ℕ). 0 < x) (sym (one-mul (B ^ (bias + k)))) (power_pos z (bias + k))) (power_pos z k) (omega (arith, ap (λ x. n * x) s))
 
-module _ {B S W bias : ℕ} (a b : End B S W bias) where
+module _ {R : Type 0} {g : Ghosts R} (a b : End R g) where
   -- of two ends, the first at the higher exponent, of which one at least is above 0
-  pub sum_full : (t : Rounding) → b.exponent ≤ a.exponent → (a.digits + cut t b.digits (B ^ (a.exponent - b.exponent)) ≡ 0 → ⊥) → (W ≤ a.digits + cut t b.digits (B ^ (a.exponent - b.exponent))) × (W * B ^ a.exponent ≤ units a + units b)
+  pub sum_full : (t : Rounding) → b.exponent ≤ a.exponent → (a.digits + cut t b.digits (g.BASE ^ (a.exponent - b.exponent)) ≡ 0 → ⊥) → (g.FULL ≤ a.digits + cut t b.digits (g.BASE ^ (a.exponent - b.exponent))) × (g.FULL * g.BASE ^ a.exponent ≤ units a + units b)
   sum_full t h n =
       dite (dec_le 1 a.digits)
-      (λ some. let f = a.full some in (omega arith, omega (arith, mul-le-mul_right (B ^ a.exponent) f)))
+      (λ some. let f = a.full some in (omega arith, omega (arith, mul-le-mul_right (g.BASE ^ a.exponent) f)))
       (λ none.
       let x : a.digits ≡ 0 = let l = lt_of_not-le none in omega arith in
       let e : a.exponent ≡ 0 = a.zero x in
       let i : b.exponent ≡ 0 = omega arith in
       let j : a.exponent - b.exponent ≡ 0 = omega arith in
-      let c : cut t b.digits (B ^ (a.exponent - b.exponent)) ≡ b.digits = ap (λ y. cut t b.digits (B ^ y)) j ∙ ap (λ y. cut t b.digits y) (pow-zero B) ∙ cut_one t b.digits in
+      let c : cut t b.digits (g.BASE ^ (a.exponent - b.exponent)) ≡ b.digits = ap (λ y. cut t b.digits (g.BASE ^ y)) j ∙ ap (λ y. cut t b.digits y) (pow-zero g.BASE) ∙ cut_one t b.digits in
       let f = b.full (let s : 0 < b.digits = omega arith in s) in
-      let p : B ^ a.exponent ≡ B ^ b.exponent = ap (λ y. B ^ y) (let k : a.exponent ≡ b.exponent = omega arith in k) in
-      (omega arith, omega (arith, ap (λ y. W * y) p, mul-le-mul_right (B ^ b.exponent) f)))
+      let p : g.BASE ^ a.exponent ≡ g.BASE ^ b.exponent = ap (λ y. g.BASE ^ y) (let k : a.exponent ≡ b.exponent = omega arith in k) in
+      (omega arith, omega (arith, ap (λ y. g.FULL * y) p, mul-le-mul_right (g.BASE ^ b.exponent) f)))
 
-  pub sum_none : (t : Rounding) → b.exponent ≤ a.exponent → a.digits + cut t b.digits (B ^ (a.exponent - b.exponent)) ≡ 0 → units a + units b ≡ 0
+  pub sum_none : (t : Rounding) → b.exponent ≤ a.exponent → a.digits + cut t b.digits (g.BASE ^ (a.exponent - b.exponent)) ≡ 0 → units a + units b ≡ 0
   sum_none t h n =
       let x : a.digits ≡ 0 = omega arith in
       let e : a.exponent ≡ 0 = a.zero x in
       let j : a.exponent - b.exponent ≡ 0 = omega arith in
-      let c : cut t b.digits (B ^ (a.exponent - b.exponent)) ≡ b.digits = ap (λ y. cut t b.digits (B ^ y)) j ∙ ap (λ y. cut t b.digits y) (pow-zero B) ∙ cut_one t b.digits in
+      let c : cut t b.digits (g.BASE ^ (a.exponent - b.exponent)) ≡ b.digits = ap (λ y. cut t b.digits (g.BASE ^ y)) j ∙ ap (λ y. cut t b.digits y) (pow-zero g.BASE) ∙ cut_one t b.digits in
       let y : b.digits ≡ 0 = omega arith in
-      omega (arith, ap (λ v. v * B ^ a.exponent) x, ap (λ v. v * B ^ b.exponent) y)
+      omega (arith, ap (λ v. v * g.BASE ^ a.exponent) x, ap (λ v. v * g.BASE ^ b.exponent) y)
 
-  pub rest_few : (t : Rounding) (k : ℕ) → cut t b.digits (B ^ k) < W * B
+  pub rest_few : (t : Rounding) (k : ℕ) → cut t b.digits (g.BASE ^ k) < g.FULL * g.BASE
   rest_few t k =
-      let p = cut_most t b.digits (B ^ k) b.digits (power_pos b.radix k) (let q = mul-le-mul_left b.digits (power_pos b.radix k) in omega arith) in
+      let p = cut_most t b.digits (g.BASE ^ k) b.digits (power_pos g.lawful k) (let q = mul-le-mul_left b.digits (power_pos g.lawful k) in omega arith) in
       omega (arith, b.few)
 
   -- where a is above b its exponent is not below b's
@@ -100,23 +101,23 @@ module _ {B S W bias : ℕ} (a b : End B S W bias) where
       (λ gt. let x = exponents_tell a b (lt_of_not-le gt) in absurd (omega arith))
 
   -- digits apart by one digit at most: the difference is exact
-  pub level_difference : b.exponent ≡ a.exponent → units b < units a → (b.digits < a.digits) × (units a - units b ≡ (a.digits - b.digits) * B ^ b.exponent)
+  pub level_difference : b.exponent ≡ a.exponent → units b < units a → (b.digits < a.digits) × (units a - units b ≡ (a.digits - b.digits) * g.BASE ^ b.exponent)
   level_difference e h =
-      let p : B ^ a.exponent ≡ B ^ b.exponent = ap (λ y. B ^ y) (sym e) in
+      let p : g.BASE ^ a.exponent ≡ g.BASE ^ b.exponent = ap (λ y. g.BASE ^ y) (sym e) in
       let l : b.digits < a.digits =
       dite (dec_le a.digits b.digits)
       (λ le. let x = digits_tell a b (sym e) le in absurd (omega arith))
       (λ gt. lt_of_not-le gt) in
       let s : (a.digits - b.digits) + b.digits ≡ a.digits = omega arith in
-      (l, omega (arith, ap (λ y. a.digits * y) p, ap (λ y. y * B ^ b.exponent) s))
+      (l, omega (arith, ap (λ y. a.digits * y) p, ap (λ y. y * g.BASE ^ b.exponent) s))
 
-  pub next_difference : a.exponent ≡ b.exponent + 1 → (b.digits < a.digits * B) × (units a - units b ≡ (a.digits * B - b.digits) * B ^ b.exponent)
+  pub next_difference : a.exponent ≡ b.exponent + 1 → (b.digits < a.digits * g.BASE) × (units a - units b ≡ (a.digits * g.BASE - b.digits) * g.BASE ^ b.exponent)
   next_difference e =
-      let p : B ^ a.exponent ≡ B ^ b.exponent * B = ap (λ y. B ^ y) (e ∙ (let i : b.exponent + 1 ≡ suc b.exponent = omega arith in i)) ∙ pow-suc B b.exponent in
+      let p : g.BASE ^ a.exponent ≡ g.BASE ^ b.exponent * g.BASE = ap (λ y. g.BASE ^ y) (e ∙ (let i : b.exponent + 1 ≡ suc b.exponent = omega arith in i)) ∙ pow-suc g.BASE b.exponent in
       let f = a.full (some a.digits a.zero) in
-      let l : b.digits < a.digits * B = omega (arith, mul-le-mul_right B f, b.few) in
-      let s : (a.digits * B - b.digits) + b.digits ≡ a.digits * B = omega arith in
-      (l, omega (arith, ap (λ y. a.digits * y) p, ap (λ y. y * B ^ b.exponent) s))
+      let l : b.digits < a.digits * g.BASE = omega (arith, mul-le-mul_right g.BASE f, b.few) in
+      let s : (a.digits * g.BASE - b.digits) + b.digits ≡ a.digits * g.BASE = omega arith in
+      (l, omega (arith, ap (λ y. a.digits * y) p, ap (λ y. y * g.BASE ^ b.exponent) s))
     where
       some : (m : ℕ) → (m ≡ 0 → a.exponent ≡ 0) → 0 < m
       some zero f = let x = f refl in absurd (omega arith)
@@ -124,39 +125,39 @@ module _ {B S W bias : ℕ} (a b : End B S W bias) where
 
   -- digits further apart: of b only a rest is taken away
   module _ (t : Rounding) (gap : ℕ) (apart : gap ≡ a.exponent - b.exponent) (far : 2 ≤ gap) where
-    lift : B ≤ B ^ (gap - 1)
+    lift : g.BASE ≤ g.BASE ^ (gap - 1)
     lift =
-        let p = pow-le-pow_right (base_pos a.radix) (let i : 1 ≤ gap - 1 = omega arith in i) in
-        subst (λ (x : ℕ). x ≤ B ^ (gap - 1)) (pow-suc B 0 ∙ ap (λ x. x * B) (pow-zero B) ∙ one-mul B) p
+        let p = pow-le-pow_right (base_pos g.lawful) (let i : 1 ≤ gap - 1 = omega arith in i) in
+        subst (λ (x : ℕ). x ≤ g.BASE ^ (gap - 1)) (pow-suc g.BASE 0 ∙ ap (λ x. x * g.BASE) (pow-zero g.BASE) ∙ one-mul g.BASE) p
 
-    top : W ≤ a.digits
+    top : g.FULL ≤ a.digits
     top = a.full (some a.digits a.zero)
       where
         some : (m : ℕ) → (m ≡ 0 → a.exponent ≡ 0) → 0 < m
         some zero f = let x = f refl in absurd (omega arith)
         some (suc m) f = omega arith
 
-    rest_most : cut (turned t) b.digits (B ^ (gap - 1)) ≤ W
-    rest_most = cut_most (turned t) b.digits (B ^ (gap - 1)) W (power_pos a.radix (gap - 1)) (omega (arith, b.few, mul-le-mul_left W lift))
+    rest_most : cut (turned t) b.digits (g.BASE ^ (gap - 1)) ≤ g.FULL
+    rest_most = cut_most (turned t) b.digits (g.BASE ^ (gap - 1)) g.FULL (power_pos g.lawful (gap - 1)) (omega (arith, b.few, mul-le-mul_left g.FULL lift))
 
-    pub far_digits : (cut (turned t) b.digits (B ^ (gap - 1)) ≤ a.digits * B) × (W ≤ a.digits * B - cut (turned t) b.digits (B ^ (gap - 1)))
-    far_digits = let r = rest_most in let p = mul-le-mul_right B top in let w = wider a.radix in (omega arith, omega arith)
+    pub far_digits : (cut (turned t) b.digits (g.BASE ^ (gap - 1)) ≤ a.digits * g.BASE) × (g.FULL ≤ a.digits * g.BASE - cut (turned t) b.digits (g.BASE ^ (gap - 1)))
+    far_digits = let r = rest_most in let p = mul-le-mul_right g.BASE top in let w = wider g.lawful in (omega arith, omega arith)
 
-    pub far_stands : Stands B W t (units a - units b) 1 (a.digits * B - cut (turned t) b.digits (B ^ (gap - 1))) (a.exponent - 1)
+    pub far_stands : Stands g.BASE g.FULL t (units a - units b) 1 (a.digits * g.BASE - cut (turned t) b.digits (g.BASE ^ (gap - 1))) (a.exponent - 1)
     far_stands =
-        let z = a.radix in
+        let z = g.lawful in
         let e = a.exponent - 1 in
-        let p : B ^ a.exponent ≡ B * B ^ e = less_power B a.exponent (omega arith) in
-        let ua : units a ≡ a.digits * B * B ^ e = omega (arith, ap (λ x. a.digits * x) p) in
+        let p : g.BASE ^ a.exponent ≡ g.BASE * g.BASE ^ e = less_power g.BASE a.exponent (omega arith) in
+        let ua : units a ≡ a.digits * g.BASE * g.BASE ^ e = omega (arith, ap (λ x. a.digits * x) p) in
         let k : e - b.exponent ≡ gap - 1 = omega arith in
-        let ub : units b ≤ W * B ^ e =
-        let s = power_split z t e b.exponent (omega arith) in
-        let i = ap (λ x. B ^ x) k in
-        omega (arith, mul-le-mul_right (B ^ b.exponent) (le_of_lt b.few), mul-le-mul_left (W * B ^ b.exponent) lift, ap (λ x. W * (B ^ b.exponent * x)) i, ap (λ x. W * x) s) in
-        let big : W * B ^ e * 2 ≤ units a = omega (arith, mul-le-mul_right (B * B ^ e) top, mul-le-mul_left (W * B ^ e) z.0.0) in
-        let is : cut t (units a - units b) (B ^ e) ≡ a.digits * B - cut (turned t) b.digits (B ^ (gap - 1)) =
-        ap (λ x. cut t (x - units b) (B ^ e)) ua
-        ∙ cut_minus t (a.digits * B) (units b) (B ^ e) (power_pos z e) (omega arith)
-        ∙ ap (λ x. a.digits * B - x) (cut_lower z (turned t) b.digits e b.exponent (omega arith))
-        ∙ ap (λ x. a.digits * B - cut (turned t) b.digits (B ^ x)) k in
-        stands_one z t (units a - units b) _ e (sym is) (omega arith)
+        let ub : units b ≤ g.FULL * g.BASE ^ e =
+        let s = power_split g.lawful t e b.exponent (omega arith) in
+        let i = ap (λ x. g.BASE ^ x) k in
+        omega (arith, mul-le-mul_right (g.BASE ^ b.exponent) (le_of_lt b.few), mul-le-mul_left (g.FULL * g.BASE ^ b.exponent) lift, ap (λ x. g.FULL * (g.BASE ^ b.exponent * x)) i, ap (λ x. g.FULL * x) s) in
+        let big : g.FULL * g.BASE ^ e * 2 ≤ units a = omega (arith, mul-le-mul_right (g.BASE * g.BASE ^ e) top, mul-le-mul_left (g.FULL * g.BASE ^ e) g.lawful.0.0) in
+        let is : cut t (units a - units b) (g.BASE ^ e) ≡ a.digits * g.BASE - cut (turned t) b.digits (g.BASE ^ (gap - 1)) =
+        ap (λ x. cut t (x - units b) (g.BASE ^ e)) ua
+        ∙ cut_minus t (a.digits * g.BASE) (units b) (g.BASE ^ e) (power_pos g.lawful e) (omega arith)
+        ∙ ap (λ x. a.digits * g.BASE - x) (cut_lower g.lawful (turned t) b.digits e b.exponent (omega arith))
+        ∙ ap (λ x. a.digits * g.BASE - cut (turned t) b.digits (g.BASE ^ x)) k in
+        stands_one g.lawful t (units a - units b) _ e (sym is) (omega arith)

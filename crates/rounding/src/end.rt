@@ -1,17 +1,32 @@
 ghost use Rattle.std.specs.Prelude.{◌≡◌, ◌*◌, ◌<◌, ◌≤◌};
-ghost use Rattle.rounding.specs.Radix.{Radix};
+
+use crate::radix::Radix;
+use std::alloc::AllocError;
+use std::marker::PhantomData;
 
 /// An end of an enclosure: `digits` times the base to `exponent`, over the base to `BIAS`.
 ///
 /// It is canonical: zero, or a full significand, from `FULL` up to `FULL` times the base. So equal ends have equal
 /// digits, and the order of ends is that of their exponents and then their digits.
-#[derive(Clone, Copy)]
-pub struct End<const BASE: u64, const PLACES: u64, const FULL: u64, const BIAS: u64> {
+pub struct End<R: Radix> {
     pub digits: u32,
     pub exponent: u32,
-    ghost few: { digits < FULL * BASE },
-    ghost low: { exponent ≤ 2 * BIAS },
-    ghost full: { (0 < digits → FULL ≤ digits) },
+    pub radix: PhantomData<R>,
+    ghost few: { digits < R.FULL * R.BASE },
+    ghost low: { exponent ≤ 2 * R.BIAS },
+    ghost full: { (0 < digits → R.FULL ≤ digits) },
     ghost zero: { (digits ≡ 0 → exponent ≡ 0) },
-    ghost radix: { Radix BASE PLACES FULL BIAS },
 }
+
+// By hand, since a derive does not see through ghost fields that speak of a type parameter.
+impl<R: Radix> Clone for End<R> {
+    ghost is_clone = { λ x y. x ≡ y };
+
+    ghost is_infallible = { λ x. Unit {0} };
+
+    fn clone(&self) -> Result<Self, AllocError> {
+        Ok(*self)
+    }
+}
+
+impl<R: Radix> Copy for End<R> {}

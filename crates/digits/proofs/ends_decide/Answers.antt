@@ -2,4 +2,4 @@ use Rattle.digits.proofs.Decides.{ends_decide}
 use Rattle.digits.proofs.ends_decide.Goals as goal
 
 pub returns : goal.returns
-returns c = ends_decide
+returns g c = ends_decide _

@@ -1,62 +1,63 @@
-use Rattle.std.proofs.Common.{ℕ, ◌+◌, ◌*◌, ◌^◌, ◌<◌, ◌≤◌, Some, sym, ap, ◌∙◌, subst, le_of_lt, add_assoc, mul-le-mul_left, arith, rules}
+use Rattle.std.proofs.Common.{ℕ, ◌+◌, ◌*◌, ◌^◌, ◌<◌, ◌≤◌, Some, sym, ap, ◌∙◌, subst, add_assoc, arith}
+use Rattle.rounding.specs.Cut.{cut}
 use Rattle.rounding.specs.Placed.{Scales}
-use Rattle.rounding.specs.Rounded.{wider}
-use Rattle.rounding.proofs.Cuts.{cut_least, cut_most}
+use Rattle.rounding.specs.Rounded.{units, wider}
 use Rattle.rounding.proofs.Ends.{power_pos}
 use Rattle.rounding.proofs.Rounds.{rounded_none}
-use Rattle.rounding.proofs.Scalings.{product_scales, product_most, product_least, limit_square, no_product, power_next}
+use Rattle.rounding.proofs.Scalings.{product_scales, product_most, product_least, scales_fit, no_product, power_next}
 use Rattle.rounding.proofs.end.End.mul.Goals as goal
 
 pub returns-then-product-eq0 : goal.returns-then-product-eq0
 returns-then-product-eq0 g c =
-    let z = c.args.self.radix in
-    ap Some (c.zero.ensures z) ∙ sym (rounded_none z _ _ (power_pos z g.row.BIAS) c.args.toward (no_product c.args.self.digits c.args.other.digits _ _ c.if-product-eq0.true))
-
-pub overflow_mul-carry : goal.overflow_mul-carry
-overflow_mul-carry g c =
-    let w = wider c.args.self.radix in
-    omega (arith, limit_square c.args.self c.args.other, mul-le-mul_left (g.row.FULL * g.row.BASE) (let l : g.row.FULL ≤ g.row.FULL * g.row.BASE = omega arith in l))
-
-pub cut_off-requires : goal.cut_off-requires
-cut_off-requires g c =
-    let w = wider c.args.self.radix in
-    (omega arith, omega (arith, product_most c.args.self c.args.other, limit_square c.args.self c.args.other))
+    let r = g.R.Radix in
+    ap Some c.zero.ensures ∙ sym (rounded_none r _ _ (power_pos r.lawful r.BIAS) c.args.toward (no_product c.args.self.digits c.args.other.digits _ _ c.if-product-eq0.true))
 
 pub scaled-requires : goal.scaled-requires
 scaled-requires g c =
-    let a = c.args.self in
-    let b = c.args.other in
-    let pos : 0 < g.row.FULL = omega arith in
-    let least = cut_least c.args.toward _ g.row.FULL g.row.FULL pos (product_least a b c.if-product-eq0.false) in
-    let most = cut_most c.args.toward _ g.row.FULL (g.row.FULL * g.row.BASE) pos (le_of_lt c.if-product-carry.true) in
-    let full : g.row.FULL ≤ c.cut_off.result = omega (arith, c.cut_off.ensures) in
-    let few : c.cut_off.result ≤ g.row.FULL * g.row.BASE = omega (arith, c.cut_off.ensures, least) in
-    search rules
-
-pub returns-then-product-carry : goal.returns-then-product-carry
-returns-then-product-carry g c =
-    let a = c.args.self in
-    let b = c.args.other in
-    c.scaled.ensures a.radix _ _ _ _
-    (product_scales a.radix c.args.toward a.digits b.digits a.exponent b.exponent g.row.PLACES g.row.FULL _ a.radix.0.2 c.cut_off.ensures (product_least a b c.if-product-eq0.false) c.if-product-carry.true)
-
-pub scaled-requires-2 : goal.scaled-requires-2
-scaled-requires-2 g c =
-    let a = c.args.self in
-    let b = c.args.other in
-    let w = wider a.radix in
-    let pos : 0 < g.row.FULL * g.row.BASE = omega arith in
-    let least = cut_least c.args.toward (a.digits * b.digits) (g.row.FULL * g.row.BASE) g.row.FULL pos (omega (arith, c.if-product-carry.false)) in
-    let most = cut_most c.args.toward _ (g.row.FULL * g.row.BASE) (g.row.FULL * g.row.BASE) pos (le_of_lt (product_most a b)) in
-    let full : g.row.FULL ≤ c.cut_off-2.result = omega (arith, c.cut_off-2.ensures) in
-    let few : c.cut_off-2.result ≤ g.row.FULL * g.row.BASE = omega (arith, c.cut_off-2.ensures, least) in
-    search rules
-
-pub returns : goal.returns
-returns g c =
+    let r = g.R.Radix in
+    let z = r.lawful in
     let a = c.args.self in
     let b = c.args.other in
     let t = c.args.toward in
-    let s = product_scales a.radix t a.digits b.digits a.exponent b.exponent (g.row.PLACES + 1) (g.row.FULL * g.row.BASE) _ (power_next a.radix) c.cut_off-2.ensures (omega (arith, c.if-product-carry.false)) (product_most a b) in
-    c.scaled-2.ensures a.radix _ _ _ _
-    (subst (λ (x : ℕ). Scales g.row.BASE g.row.FULL t (a.digits * g.row.BASE ^ a.exponent * (b.digits * g.row.BASE ^ b.exponent)) (g.row.BASE ^ g.row.BIAS) (a.digits * b.digits) (g.row.FULL * g.row.BASE) c.cut_off-2.result x g.row.BIAS) (sym (add_assoc (a.exponent + b.exponent) g.row.PLACES 1)) s)
+    let is = c.cut_off.ensures ∙ ap (cut t (a.digits * b.digits)) c.FULL-full.ensures in
+    let most : a.digits * b.digits < r.FULL * r.BASE * r.FULL = rw (sym c.limit-limit.ensures) (rw (sym c.FULL-full.ensures) c.if-product-limit.true) in
+    let f = scales_fit z t (product_scales z t a.digits b.digits a.exponent b.exponent r.PLACES r.FULL _ z.0.2 is (product_least a b c.if-product-eq0.false) most) in
+    record { full = f.0; few = f.1; low = omega (arith, a.low, b.low, z) }
+
+pub returns-then-product-limit : goal.returns-then-product-limit
+returns-then-product-limit g c =
+    let r = g.R.Radix in
+    let z = r.lawful in
+    let a = c.args.self in
+    let b = c.args.other in
+    let t = c.args.toward in
+    let is = c.cut_off.ensures ∙ ap (cut t (a.digits * b.digits)) c.FULL-full.ensures in
+    let most : a.digits * b.digits < r.FULL * r.BASE * r.FULL = rw (sym c.limit-limit.ensures) (rw (sym c.FULL-full.ensures) c.if-product-limit.true) in
+    c.scaled.ensures (units a * units b) (r.BASE ^ r.BIAS) (a.digits * b.digits) r.FULL
+    (rw c.PLACES.ensures (rw c.BIAS.ensures (product_scales z t a.digits b.digits a.exponent b.exponent r.PLACES r.FULL _ z.0.2 is (product_least a b c.if-product-eq0.false) most)))
+
+pub scaled-requires-2 : goal.scaled-requires-2
+scaled-requires-2 g c =
+    let r = g.R.Radix in
+    let z = r.lawful in
+    let a = c.args.self in
+    let b = c.args.other in
+    let t = c.args.toward in
+    let is = c.cut_off-2.ensures ∙ ap (cut t (a.digits * b.digits)) c.limit-limit.ensures in
+    let least : r.FULL * r.BASE * r.FULL ≤ a.digits * b.digits = rw (sym c.limit-limit.ensures) (rw (sym c.FULL-full.ensures) c.if-product-limit.false) in
+    let f = scales_fit z t (product_scales z t a.digits b.digits a.exponent b.exponent (r.PLACES + 1) (r.FULL * r.BASE) _ (power_next z) is (omega arith) (product_most a b)) in
+    record { full = f.0; few = f.1; low = omega (arith, a.low, b.low, z) }
+
+pub returns : goal.returns
+returns g c =
+    let r = g.R.Radix in
+    let z = r.lawful in
+    let a = c.args.self in
+    let b = c.args.other in
+    let t = c.args.toward in
+    let is = c.cut_off-2.ensures ∙ ap (cut t (a.digits * b.digits)) c.limit-limit.ensures in
+    let least : r.FULL * r.BASE * r.FULL ≤ a.digits * b.digits = rw (sym c.limit-limit.ensures) (rw (sym c.FULL-full.ensures) c.if-product-limit.false) in
+    let s = product_scales z t a.digits b.digits a.exponent b.exponent (r.PLACES + 1) (r.FULL * r.BASE) _ (power_next z) is (omega arith) (product_most a b) in
+    c.scaled-2.ensures (units a * units b) (r.BASE ^ r.BIAS) (a.digits * b.digits) (r.FULL * r.BASE)
+    (rw c.PLACES.ensures (rw c.BIAS-2.ensures
+    (subst (λ (x : ℕ). Scales r.BASE r.FULL t (units a * units b) (r.BASE ^ r.BIAS) (a.digits * b.digits) (r.FULL * r.BASE) c.cut_off-2.result x r.BIAS) (sym (add_assoc (a.exponent + b.exponent) r.PLACES 1)) s)))
