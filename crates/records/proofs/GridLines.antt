@@ -6,7 +6,7 @@ use Rattle.records.specs.Cause.{Refusal, unless}
 use Rattle.records.specs.Fields.{outside}
 use Rattle.records.specs.Grid.{lists_refusal, lawful_lists, lists_line, grid_complete, grid_refusal}
 use Rattle.records.specs.Lines.{grid_widths, grid_ratios, grid_factors}
-use Rattle.records.proofs.Ranges.{first_none, none_found, allowed_at, between, each_between}
+use Rattle.records.proofs.Ranges.{first_none, none_found, each_between}
 
 -- what the ranges keep
 pub record Kept (ws ms fs : List ℕ) : Type 0 where
@@ -22,10 +22,10 @@ lists_kept ws ms fs e =
     let b = first_none _ _ a.1 in
     let c = first_none _ _ b.1 in
     let d = first_none _ _ c.1 in
-    let counts = allowed_at (Between 1 6 ∷ []) 0 2 (length ws ∷ length ms ∷ []) a.0 in
+    let counts = each_between 1 6 2 (length ws ∷ length ms ∷ []) a.0 in
     record {
-      wide = between 1 6 (length ws) (counts 0 (lit< tt));
-      deep = between 1 6 (length ms) (counts 1 (lit< tt));
+      wide = counts 0 (lit< tt);
+      deep = counts 1 (lit< tt);
       widths = b.0;
       ratios = c.0;
       factors = d.0;
