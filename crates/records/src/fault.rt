@@ -1,6 +1,10 @@
 ghost use Rattle.std.specs.Prelude.{◌≡◌};
 ghost use Rattle.records.specs.Cause.{number};
 
+use std::error::Error;
+use std::fmt;
+use std::fmt::{Display, Formatter, Write};
+
 /// Why a call, a line or a paper is refused.
 #[derive(Clone, Copy, PartialEq, Eq, Debug)]
 pub enum Cause {
@@ -67,3 +71,11 @@ impl Cause {
         self as u8
     }
 }
+
+impl Display for Fault {
+    fn fmt<W: Write>(&self, f: &mut Formatter<W>) -> fmt::Result {
+        write!(f, "cause {} in field {}", self.cause.number(), self.field)
+    }
+}
+
+impl Error for Fault {}
