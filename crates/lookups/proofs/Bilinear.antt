@@ -15,10 +15,10 @@ use Rattle.lookups.specs.Lookup.{rows, support_at}
 use Rattle.lookups.specs.declared.cell.Cell.{Cell}
 use Rattle.records.specs.declared.grid.SupportGrid.{SupportGrid}
 use Rattle.records.specs.Lines.{grid_widths, grid_ratios, grid_factors}
-use Rattle.records.proofs.GridLines.{Gridded, gridded}
+use Rattle.records.proofs.GridLines.{gridded}
 use Rattle.lookups.proofs.Cells.{finds_at}
 use Rattle.lookups.proofs.Same.{same_by, same_refl, same_trans, same_plus, same_times, same_over_by}
-use Rattle.lookups.proofs.Values.{one_max, mean_same}
+use Rattle.lookups.proofs.Values.{mean_least, mean_most, one_max, mean_same}
 
 rows_length : (widths rs fs : List ℕ) (w : Fraction) → length (rows widths rs fs w) ≡ length rs
 rows_length widths [] fs w = refl
@@ -108,14 +108,16 @@ pub modulus_same : (r : Fraction) (n : ℕ) (m : Fraction) → 0 < m.num → r.n
 unfolding ◌⊗◌ ◌⊘◌ whole
 modulus_same r n m h e f = same_by (rw (e, f, one_max m.num h) (omega arith))
 
--- what the lent lists keep
-pub lent_kept : (g : SupportGrid) (ws ms fs : List ℕ) → ws ≡ grid_widths g → ms ≡ grid_ratios g → fs ≡ grid_factors g → Gridded ws ms fs
-lent_kept g ws ms fs a b c = rw (a, b, c) (gridded g)
+-- the weighted sum of a row lies between the bounds of its factors
+pub row_bounds : (g : SupportGrid) (j : ℕ) (c : Cell) → j < length (grid_ratios g) → c.first < length (grid_widths g) → c.second < length (grid_widths g) → (c.after + c.before ≤ row_sum (grid_factors g) (j * length (grid_widths g)) c) × (row_sum (grid_factors g) (j * length (grid_widths g)) c ≤ 2000 * (c.after + c.before))
+row_bounds g j c h f s =
+    let q = gridded g in
+    let a = q.factors _ (place c.first j _ _ _ f h q.full) in
+    let b = q.factors _ (place c.second j _ _ _ s h q.full) in
+    (omega (arith, mean_least 1 _ _ c.after c.before a.0 b.0), mean_most 2000 _ _ c.after c.before a.1 b.1)
 
--- the factor of the lent lists is the grid's
-pub found_factor : (g : SupportGrid) (ws ms fs : List ℕ) → ws ≡ grid_widths g → ms ≡ grid_ratios g → fs ≡ grid_factors g → (w m : Fraction) (r : Ratio) (c d : Cell) → Finds ws (w ⊗ whole 100) c → Finds ms (m ⊗ whole 1000) d → c.first < length ws → c.second < length ws → d.first < length ms → d.second < length ms → r.num ≡ row_sum fs (d.first * length ws) c * d.after + row_sum fs (d.second * length ws) c * d.before → r.den ≡ 1000 * (c.after + c.before) * (d.after + d.before) → Same (value r) (support_at (grid_widths g) (grid_ratios g) (grid_factors g) w m)
-found_factor g ws ms fs a b e w m r c d fc fd cf cs df ds n k =
-    let q = lent_kept g ws ms fs a b e in
+-- the grid's factor from its cells
+pub found_factor : (g : SupportGrid) (w m : Fraction) (r : Ratio) (c d : Cell) → Finds (grid_widths g) (w ⊗ whole 100) c → Finds (grid_ratios g) (m ⊗ whole 1000) d → c.first < length (grid_widths g) → c.second < length (grid_widths g) → d.first < length (grid_ratios g) → d.second < length (grid_ratios g) → r.num ≡ row_sum (grid_factors g) (d.first * length (grid_widths g)) c * d.after + row_sum (grid_factors g) (d.second * length (grid_widths g)) c * d.before → r.den ≡ 1000 * (c.after + c.before) * (d.after + d.before) → Same (value r) (support_at (grid_widths g) (grid_ratios g) (grid_factors g) w m)
+found_factor g w m r c d fc fd cf cs df ds n k =
     let h : 0 < 1000 * (c.after + c.before) * (d.after + d.before) = rw (← k) r.positive in
-    rw (← a, ← b, ← e)
-    (same_trans (same_by (rw (n, k))) (support_same ws ms fs q.full w m c d fc fd cf cs df ds _ _ refl refl h))
+    same_trans (same_by (rw (n, k))) (support_same (grid_widths g) (grid_ratios g) (grid_factors g) (gridded g).full w m c d fc fd cf cs df ds _ _ refl refl h)

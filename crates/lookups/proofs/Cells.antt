@@ -7,14 +7,15 @@ use native.Mathlib.Nat.{not-suc-le-zero, le_of_suc-le-suc, mul-le-mul, lt_of_mul
 use native.Mathlib.Numerals.{add-one}
 use native.Mathlib.Omega.{arith}
 use borrow.Author.Tests.{le-leb, lt-leb}
-use lib.ListN.{length, get_or, drop, drop_of_length-le}
+use lib.ListN.{length, get_or, drop, drop_of_length-le, length-map}
+use Rattle.std.specs.List.{AllWithin, HoldsAt}
 use lib.Seq.{drop-cons}
 use Rattle.fraction.specs.Fraction.{Fraction, Same, whole, ◌⊕◌, ◌⊗◌, ◌⊘◌, ◌⊖◌}
 use Rattle.fraction.specs.Ratio.{at_most}
 use Rattle.lookups.specs.Cell.{mix, Finds}
 use Rattle.lookups.specs.Line.{chord, line_from, line_at}
 use Rattle.lookups.specs.declared.cell.Cell.{Cell}
-use Rattle.lookups.proofs.Same.{same_by, same_refl, same_trans, same_plus, same_times, same_monus, same_over_by, test_same, cond_same}
+use Rattle.lookups.proofs.Same.{same_by, same_refl, same_trans, same_plus, same_times, same_monus, same_over_by, same_to, test_same, cond_same}
 
 -- equal fractions have equal values on a line, so that a cell serves both
 chord_cong : (x1 : ℕ) (y1 : Fraction) (x2 : ℕ) (y2 : Fraction) {x y : Fraction} → Same x y → Same (chord x1 y1 x2 y2 x) (chord x1 y1 x2 y2 y)
@@ -58,26 +59,26 @@ chord_same x1 x2 y1 y2 x A B W a b w pos =
         let k : A + B ≡ W * x.den = omega (arith, ap (λ (t : ℕ). t * x.den) w) in
         omega arith
 
--- a level end
-pub level_mix : (k : ℕ) (h : 0 < 1 + 0) (ys : List Fraction) → Same (mix (record { first = k; second = k; after = 1; before = 0; positive = h }) ys) (get_or ys k (whole 0))
+-- a cell at one point has its value
+level_mix : (k : ℕ) (c : Cell) → (c.first ≡ k) × (c.second ≡ k) → (c.after ≡ 1) × (c.before ≡ 0) → (ys : List Fraction) → Same (mix c ys) (get_or ys k (whole 0))
 unfolding mix ◌⊕◌ ◌⊗◌ ◌⊘◌ whole
-level_mix k h ys = same_by (omega arith)
+level_mix k c p w ys = same_by (rw (p.0, p.1, w.0, w.1) (omega arith))
 
 -- between x1 and x2, the products standing in variables
-pub cell_found : (x1 x2 i : ℕ) (x : Fraction) (low high : ℕ) (c : Cell) → low ≡ x1 * x.den → high ≡ x2 * x.den → low < x.num → x.num ≤ high → c.first ≡ i - 1 → c.second ≡ i → c.after ≡ high - x.num → c.before ≡ x.num - low → (ys : List Fraction) → Same (mix c ys) (chord x1 (get_or ys (i - 1) (whole 0)) x2 (get_or ys i (whole 0)) x)
+cell_found : (x1 x2 i : ℕ) (x : Fraction) (low high : ℕ) (c : Cell) → low ≡ x1 * x.den → high ≡ x2 * x.den → low < x.num → x.num ≤ high → c.first ≡ i - 1 → c.second ≡ i → c.after ≡ high - x.num → c.before ≡ x.num - low → (ys : List Fraction) → Same (mix c ys) (chord x1 (get_or ys (i - 1) (whole 0)) x2 (get_or ys i (whole 0)) x)
 unfolding mix
 cell_found x1 x2 i x low high c l u lt le f s a b ys =
     let w : x1 < x2 = lt_of_mul-lt-mul_right x.den (omega arith) in
     rw (f, s, a, b)
     (chord_same x1 x2 (get_or ys (i - 1) (whole 0)) (get_or ys i (whole 0)) x (high - x.num) (x.num - low) (x2 - x1) (omega arith) (omega arith) (omega arith) (omega arith))
 
-pub line_first : (xs : List ℕ) (ys : List Fraction) (x : Fraction) → 1 ≤ length xs → length ys ≡ length xs → x.num ≤ get_or xs 0 0 * x.den → get_or ys 0 (whole 0) ≡ line_at xs ys x
+line_first : (xs : List ℕ) (ys : List Fraction) (x : Fraction) → 1 ≤ length xs → length ys ≡ length xs → x.num ≤ get_or xs 0 0 * x.den → get_or ys 0 (whole 0) ≡ line_at xs ys x
 unfolding whole
 line_first [] ys x h e t = absurd (not-suc-le-zero h)
 line_first (a ∷ xs) [] x h e t = absurd (omega (arith, e))
 line_first (a ∷ xs) (b ∷ ys) x h e t = rw (le-leb (x.num * 1) (a * x.den) (omega arith))
 
-pub line_past_first : (xs : List ℕ) (ys : List Fraction) (x : Fraction) → 1 ≤ length xs → length ys ≡ length xs → get_or xs 0 0 * x.den < x.num → line_at xs ys x ≡ line_from (get_or xs 0 0) (get_or ys 0 (whole 0)) (drop 1 xs) (drop 1 ys) x
+line_past_first : (xs : List ℕ) (ys : List Fraction) (x : Fraction) → 1 ≤ length xs → length ys ≡ length xs → get_or xs 0 0 * x.den < x.num → line_at xs ys x ≡ line_from (get_or xs 0 0) (get_or ys 0 (whole 0)) (drop 1 xs) (drop 1 ys) x
 unfolding whole
 line_past_first [] ys x h e t = absurd (not-suc-le-zero h)
 line_past_first (a ∷ xs) [] x h e t = absurd (omega (arith, e))
@@ -88,24 +89,67 @@ module _ (xs : List ℕ) (ys : List Fraction) (x : Fraction) (a : ℕ) (b : Frac
   step : i < length xs → i < length ys → line_from a b (drop i xs) (drop i ys) x ≡ cond (at_most x (whole (get_or xs i 0))) (chord a b (get_or xs i 0) (get_or ys i (whole 0)) x) (line_from (get_or xs i 0) (get_or ys i (whole 0)) (drop (i + 1) xs) (drop (i + 1) ys) x)
   step h k = rw (add-one, drop-cons xs i 0, drop-cons ys i (whole 0))
 
-  pub line_in : i < length xs → i < length ys → all ≡ line_from a b (drop i xs) (drop i ys) x → x.num ≤ get_or xs i 0 * x.den → chord a b (get_or xs i 0) (get_or ys i (whole 0)) x ≡ all
+  line_in : i < length xs → i < length ys → all ≡ line_from a b (drop i xs) (drop i ys) x → x.num ≤ get_or xs i 0 * x.den → chord a b (get_or xs i 0) (get_or ys i (whole 0)) x ≡ all
   unfolding whole
   line_in h k e t = sym (e ∙ step h k ∙ rw (le-leb (x.num * 1) (get_or xs i 0 * x.den) (omega arith)))
 
-  pub line_on : i < length xs → i < length ys → all ≡ line_from a b (drop i xs) (drop i ys) x → get_or xs i 0 * x.den < x.num → all ≡ line_from (get_or xs i 0) (get_or ys i (whole 0)) (drop (i + 1) xs) (drop (i + 1) ys) x
+  line_on : i < length xs → i < length ys → all ≡ line_from a b (drop i xs) (drop i ys) x → get_or xs i 0 * x.den < x.num → all ≡ line_from (get_or xs i 0) (get_or ys i (whole 0)) (drop (i + 1) xs) (drop (i + 1) ys) x
   unfolding whole
   line_on h k e t = e ∙ step h k ∙ rw (lt-leb (x.num * 1) (get_or xs i 0 * x.den) (omega arith))
 
   line_end : length xs ≤ i → all ≡ line_from a b (drop i xs) (drop i ys) x → b ≡ all
   line_end h e = sym (e ∙ ap (λ (l : List ℕ). line_from a b l (drop i ys) x) (drop_of_length-le xs h))
 
-pub line_last : (xs : List ℕ) (ys : List Fraction) (x : Fraction) (i : ℕ) (all : Fraction) → length xs ≤ i → i ≤ length xs → all ≡ line_from (get_or xs (i - 1) 0) (get_or ys (i - 1) (whole 0)) (drop i xs) (drop i ys) x → get_or ys (length xs - 1) (whole 0) ≡ all
-line_last xs ys x i all h k e =
-    let r : length xs - 1 ≡ i - 1 = omega arith in
-    ap (λ (n : ℕ). get_or ys n (whole 0)) r ∙ line_end xs ys x (get_or xs (i - 1) 0) (get_or ys (i - 1) (whole 0)) i all h e
-
 -- what is read at a place of the points
 pub map_at : {A : Type 0} (f : A → ℕ) (xs : List A) (i : ℕ) (x : A) (n : ℕ) → i < length xs → x ≡ get_or xs i x → n ≡ f x → n ≡ get_or (map f xs) i 0
 map_at f [] i x n h e k = absurd (not-suc-le-zero h)
 map_at f (y ∷ xs) zero x n h e k = k ∙ ap f e
 map_at f (y ∷ xs) (suc i) x n h e k = map_at f xs i x n (le_of_suc-le-suc h) e k
+
+-- x lies past the points up to the k-th, and what follows is the line from there
+past : (xs : List ℕ) (ys : List Fraction) (x : Fraction) → length ys ≡ length xs → (k : ℕ) → k < length xs → ((j : ℕ) → j ≤ k → get_or xs j 0 * x.den < x.num) → line_at xs ys x ≡ line_from (get_or xs k 0) (get_or ys k (whole 0)) (drop (k + 1) xs) (drop (k + 1) ys) x
+past xs ys x n zero h a = line_past_first xs ys x h n (a 0 (omega arith))
+past xs ys x n (suc k) h a =
+    line_on xs ys x (get_or xs k 0) (get_or ys k (whole 0)) (suc k) (line_at xs ys x) h (omega (arith, n, h))
+    (rw add-one at (past xs ys x n k (omega (arith, h)) (λ j l. a j (omega (arith, l))))) (a (suc k) (omega arith))
+
+-- what holds of the place of the point k, holds of the k-th place
+placed : {A : Type 0} (spot : A → ℕ) (P : ℕ → Type 0) (ps : List A) (k : ℕ) → k < length ps → ((d : A) → P (spot (get_or ps k d))) → P (get_or (map spot ps) k 0)
+placed spot P [] k h a = absurd (not-suc-le-zero h)
+placed spot P (p ∷ ps) zero h a = a p
+placed spot P (p ∷ ps) (suc k) h a = placed spot P ps k (le_of_suc-le-suc h) a
+
+-- the cells that serve the line at x, by the first point that is not passed
+module _ {A : Type 0} (spot : A → ℕ) (ps : List A) (x : Fraction) where
+  abbrev pub Passed : A → Type 0
+  Passed p = spot p * x.den < x.num
+
+  abbrev pub Reaches : A → Type 0
+  Reaches p = x.num ≤ spot p * x.den
+
+  abbrev places : List ℕ
+  places = map spot ps
+
+  passed_up : (i : ℕ) → i ≤ length ps → AllWithin Passed ps 0 i → (k : ℕ) → k + 1 ≤ i → (j : ℕ) → j ≤ k → get_or places j 0 * x.den < x.num
+  passed_up i h a k l j m = placed spot (λ n. n * x.den < x.num) ps j (omega (arith, h, l, m)) (λ d. a j d (omega arith) (omega (arith, l, m)))
+
+  pub first_found : (c : Cell) → 1 ≤ length ps → HoldsAt Reaches ps 0 → (c.first ≡ 0) × (c.second ≡ 0) → (c.after ≡ 1) × (c.before ≡ 0) → Finds places x c
+  first_found c h t p w ys k =
+      same_to (level_mix 0 c p w ys)
+      (line_first places ys x (omega (arith, h, length-map ps spot)) k (placed spot (λ n. x.num ≤ n * x.den) ps 0 h t))
+
+  pub last_found : (c : Cell) → 1 ≤ length ps → AllWithin Passed ps 0 (length ps) → (c.first ≡ length ps - 1) × (c.second ≡ length ps - 1) → (c.after ≡ 1) × (c.before ≡ 0) → Finds places x c
+  last_found c h t p w ys k =
+      let last = length ps - 1 in
+      let e = past places ys x k last (omega (arith, h, length-map ps spot)) (passed_up (length ps) (omega arith) t last (omega (arith, h))) in
+      same_to (level_mix last c p w ys)
+      (line_end places ys x (get_or places last 0) (get_or ys last (whole 0)) (last + 1) (line_at places ys x) (omega (arith, h, length-map ps spot)) e)
+
+  pub between_found : (i low high : ℕ) (c : Cell) → 1 ≤ i → i < length ps → HoldsAt Reaches ps i → AllWithin Passed ps 0 i → low ≡ get_or places (i - 1) 0 * x.den → high ≡ get_or places i 0 * x.den → (c.first ≡ i - 1) × (c.second ≡ i) → (c.after ≡ high - x.num) × (c.before ≡ x.num - low) → Finds places x c
+  between_found i low high c h l r t a b p w ys k =
+      let s : i - 1 + 1 ≡ i = omega (arith, h) in
+      let u = passed_up i (omega (arith, l)) t (i - 1) (omega (arith, h)) in
+      let v = placed spot (λ n. x.num ≤ n * x.den) ps i l r in
+      let e = rw s at (past places ys x k (i - 1) (omega (arith, l, length-map ps spot)) u) in
+      same_to (cell_found _ _ i x low high c a b (rw a (u (i - 1) (omega arith))) (rw b v) p.0 p.1 w.0 w.1 ys)
+      (line_in places ys x _ _ i (line_at places ys x) (omega (arith, l, length-map ps spot)) (omega (arith, l, k, length-map ps spot)) e v)

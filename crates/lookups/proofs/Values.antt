@@ -9,13 +9,10 @@ use Rattle.fraction.specs.Fraction.{Fraction, Same, whole, ◌⊕◌, ◌⊗◌,
 use Rattle.lookups.specs.Cell.{mix, Finds}
 use Rattle.lookups.specs.Lookup.{curve_at}
 use Rattle.lookups.specs.declared.cell.Cell.{Cell}
-use Rattle.records.specs.declared.curve.EmbedmentCurve.{EmbedmentCurve}
-use Rattle.records.specs.declared.curve.ShapeCurve.{ShapeCurve}
 use Rattle.records.specs.declared.point.Point.{Point}
 use Rattle.records.specs.Curve.{embedment_rules, shape_rules}
-use Rattle.records.specs.Lines.{embedment_points, shape_points}
-use Rattle.records.proofs.Chains.{nil}
-use Rattle.records.proofs.CurveLines.{Kept, points_kept}
+use Rattle.records.specs.Lines.{EmbedmentCurve, ShapeCurve, embedment_points, shape_points}
+use Rattle.records.proofs.CurveLines.{nil, Kept, points_kept}
 use Rattle.lookups.proofs.Cells.{line_cong}
 use Rattle.lookups.proofs.Same.{same_by, same_trans, same_over_by}
 

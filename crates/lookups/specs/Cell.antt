@@ -34,10 +34,9 @@ pub record Bounds (ps : List Point) (at r : Ratio) : Type 0 where
 abbrev pub row_sum : List ℕ → ℕ → Cell → ℕ
 row_sum fs start c = slice_index fs (start + c.first) * c.after + slice_index fs (start + c.second) * c.before
 
--- both cells lie within a grid of rows of `wide`, whose factors are in their range, and their weights are small
-pub record Crossing (fs : List ℕ) (wide : ℕ) (across along : Cell) : Type 0 where
-  pub low : (along.first * wide + across.first < length fs) × (along.first * wide + across.second < length fs)
-  pub high : (along.second * wide + across.first < length fs) × (along.second * wide + across.second < length fs)
-  pub factors : (k : ℕ) → k < length fs → (1 ≤ slice_index fs k) × (slice_index fs k ≤ 2000)
+-- both cells lie within a grid, and their weights are small
+pub record Crossing (widths ratios : List ℕ) (across along : Cell) : Type 0 where
+  pub across_within : (across.first < length widths) × (across.second < length widths)
+  pub along_within : (along.first < length ratios) × (along.second < length ratios)
   pub across_small : across.after + across.before ≤ 120000000
   pub along_small : along.after + along.before ≤ 17280000000000000000000

@@ -39,32 +39,34 @@ pub fn cell_of<P: Placed>(points: &[P], at: Ratio) -> Cell
     ensures second { result.second < length points.now }
     ensures small { result.after + result.before ≤ max 1 (slice_index (map P.spot points.now) result.second * at.den) }
 {
-    let mut low = points[0].place() as u128 * at.den;
-    if at.num <= low {
-        return Cell {
-            first: 0,
-            second: 0,
-            after: 1,
-            before: 0,
-        };
-    }
-    for i in 1..points.len() {
-        let high = points[i].place() as u128 * at.den;
-        if at.num <= high {
-            return Cell::between(i, low, high, at.num);
+    match points
+        .iter()
+        .position(|point| at.num <= point.place() as u128 * at.den)
+    {
+        None => Cell::level(points.len() - 1),
+        Some(0) => Cell::level(0),
+        Some(i) => {
+            let low = points[i - 1].place() as u128 * at.den;
+            let high = points[i].place() as u128 * at.den;
+            Cell::between(i, low, high, at.num)
         }
-        low = high;
-    }
-    let last = points.len() - 1;
-    Cell {
-        first: last,
-        second: last,
-        after: 1,
-        before: 0,
     }
 }
 
 impl Cell {
+    // At a point.
+    fn level(i: usize) -> Self
+        ensures points { (result.first ≡ i) × (result.second ≡ i) }
+        ensures weights { (result.after ≡ 1) × (result.before ≡ 0) }
+    {
+        Cell {
+            first: i,
+            second: i,
+            after: 1,
+            before: 0,
+        }
+    }
+
     // Between the points `i - 1` and `i`: the nearer one weighs more.
     fn between(i: usize, low: u128, high: u128, at: u128) -> Self
         requires { (1 ≤ i) × ((low < at) × (at ≤ high)) }

@@ -1,4 +1,4 @@
-ghost use Rattle.std.specs.Prelude.{◌≡◌, ℕ, ◌+◌, ◌*◌, ◌^◌, ◌<◌, ◌≤◌, length, slice_index};
+ghost use Rattle.std.specs.Prelude.{◌≡◌, ◌+◌, ◌*◌, ◌^◌, ◌<◌, ◌≤◌, length};
 ghost use Rattle.fraction.specs.Fraction.{Same, whole, ◌⊘◌};
 ghost use Rattle.fraction.specs.Ratio.{value};
 ghost use Rattle.lookups.specs.Cell.{row_sum, Crossing};
@@ -12,32 +12,38 @@ use crate::operand::Modulus;
 use fraction::Ratio;
 use records::{Section, Site, SupportGrid};
 
-// The value of a row of factors that begins at `start`, times the cell's whole weight.
-fn row_sum(factors: &[u64], start: usize, cell: Cell) -> u128
-    requires inside { (start + cell.first < length factors.now) × (start + cell.second < length factors.now) }
-    requires factors { (k : ℕ) → k < length factors.now → (1 ≤ slice_index factors.now k) × (slice_index factors.now k ≤ 2000) }
-    requires small { cell.after + cell.before ≤ 120000000 }
-    ensures value { result ≡ row_sum factors.now start cell }
-    ensures least { cell.after + cell.before ≤ result }
-    ensures most { result ≤ 2000 * (cell.after + cell.before) }
+// The value of a row of factors at the cell, times the cell's whole weight.
+#[tactic(auto, using(crate::proofs::Bilinear::row_bounds))]
+fn row_sum(grid: &SupportGrid, row: usize, across: Cell) -> u128
+    requires row { row < length (grid_ratios grid.now) }
+    requires first { across.first < length (grid_widths grid.now) }
+    requires second { across.second < length (grid_widths grid.now) }
+    requires small { across.after + across.before ≤ 120000000 }
+    ensures value { result ≡ row_sum (grid_factors grid.now) (row * length (grid_widths grid.now)) across }
+    ensures least { across.after + across.before ≤ result }
+    ensures most { result ≤ 2000 * (across.after + across.before) }
 {
-    cell.weigh(
-        factors[start + cell.first] as u128,
-        factors[start + cell.second] as u128,
+    let factors = grid.factors();
+    let start = row * grid.widths().len();
+    across.weigh(
+        factors[start + across.first] as u128,
+        factors[start + across.second] as u128,
     )
 }
 
 // Two rows of factors, each weighed across, and then weighed along.
-fn crossed(factors: &[u64], wide: usize, across: Cell, along: Cell) -> Ratio
-    requires { Crossing factors.now wide across along }
-    ensures num { result.num ≡ row_sum factors.now (along.first * wide) across * along.after + row_sum factors.now (along.second * wide) across * along.before }
+#[tactic(auto, using(crate::proofs::Bilinear::weights_fit, crate::proofs::Bilinear::weighed))]
+fn crossed(grid: &SupportGrid, across: Cell, along: Cell) -> Ratio
+    requires { Crossing (grid_widths grid.now) (grid_ratios grid.now) across along }
+    ensures num { result.num ≡ row_sum (grid_factors grid.now) (along.first * length (grid_widths grid.now)) across * along.after
+        + row_sum (grid_factors grid.now) (along.second * length (grid_widths grid.now)) across * along.before }
     ensures den { result.den ≡ 1000 * (across.after + across.before) * (along.after + along.before) }
     ensures least { result.den ≤ 1000 * result.num }
     ensures most { result.num ≤ 2 * result.den }
     ensures fits { result.den < 2 ^ 114 }
 {
-    let low = row_sum(factors, along.first * wide, across);
-    let high = row_sum(factors, along.second * wide, across);
+    let low = row_sum(grid, along.first, across);
+    let high = row_sum(grid, along.second, across);
     Ratio {
         num: along.weigh(low, high),
         den: 1_000 * (across.after + across.before) * (along.after + along.before),
@@ -75,10 +81,7 @@ pub fn support_factor(grid: &SupportGrid, section: &Section, site: &Site, modulu
     ensures most { result.num ≤ 2 * result.den }
     ensures fits { result.den < 2 ^ 114 }
 {
-    let widths = grid.widths();
-    let ratios = grid.ratios();
-    let factors = grid.factors();
-    let across = cell_of(widths, width_ratio(section, site));
-    let along = cell_of(ratios, modulus_ratio(site, modulus));
-    crossed(factors, widths.len(), across, along)
+    let across = cell_of(grid.widths(), width_ratio(section, site));
+    let along = cell_of(grid.ratios(), modulus_ratio(site, modulus));
+    crossed(grid, across, along)
 }

@@ -1,8 +1,6 @@
 ghost use Rattle.lookups.specs.Tabulated.{Tabulated};
 
-/// Stands for the tabulated values of the definitions, which its contract states.
-pub fn tabulated() -> u8
+/// The definitions give the values worked by hand.
+pub fn tabulated()
     ensures { Tabulated }
-{
-    0
-}
+{}

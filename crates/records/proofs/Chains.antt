@@ -1,26 +1,32 @@
--- The rules between neighbouring points, place by place.
-use Rattle.std.proofs.Common.{◌≡◌, ℕ, ◌+◌, ◌<◌, ◌≤◌, Bool, true, false, ◌&&◌, List, [], ◌∷◌, length, get_or, drop, sym, refl, ap, ◌∙◌, not-suc-le-zero, add-one, drop_of_length-le, drop-cons}
-use Rattle.records.specs.declared.point.Point.{Point}
-use Rattle.records.specs.declared.point.Rule.{Rule}
-use Rattle.records.specs.Curve.{holds, linked, chained}
+-- What a test between neighbours has answered.
+use Rattle.std.proofs.Common.{◌≡◌, ℕ, zero, suc, ◌+◌, ◌<◌, Bool, true, false, ◌&&◌, List, [], ◌∷◌, length, get_or, refl, arith}
+use Rattle.std.specs.List.{IsAllAdjacentAnswer}
+use Rattle.records.specs.Curve.{linked, chained}
 
-abbrev pub nil : Point
-nil = record { x = 0; y = 0 }
+module _ {X : Type 0} (test : X → X → Bool) where
+  -- the k-th and the next give b
+  abbrev Answers : Bool → List X → ℕ → Type 0
+  Answers b xs k = (d : X) → b ≡ test (get_or xs k d) (get_or xs (k + 1) d)
 
--- one turn of a loop over neighbours: a broken link ends it, a sound one goes on, and the end is true
-module _ (r : Rule) (p : Point) (ps : List Point) (i : ℕ) (whole : Bool) where
-  step : i < length ps → linked r p (drop i ps) ≡ (holds r p (get_or ps i nil) && linked r (get_or ps i nil) (drop (i + 1) ps))
-  step h = rw (add-one, drop-cons ps i nil)
+  next : (b : Bool) (x : X) (xs : List X) (k : ℕ) → Answers b (x ∷ xs) (suc k) → Answers b xs k
+  next b x xs k a d = let e : suc k + 1 ≡ suc (k + 1) = omega arith in rw e at (a d)
 
-  pub linked_stop : i < length ps → whole ≡ linked r p (drop i ps) → false ≡ holds r p (get_or ps i nil) → false ≡ whole
-  linked_stop h e t = sym (e ∙ step h ∙ ap (λ (b : Bool). b && linked r (get_or ps i nil) (drop (i + 1) ps)) (sym t))
+  all_linked : (x : X) (xs : List X) → ((k : ℕ) → k + 1 < length (x ∷ xs) → Answers true (x ∷ xs) k) → true ≡ linked test x xs
+  all_linked x [] a = refl
+  all_linked x (y ∷ ys) a = rw (← a 0 (omega arith) x) (all_linked y ys (λ k h. next true x (y ∷ ys) k (a (suc k) (omega (arith, h)))))
 
-  pub linked_on : i < length ps → whole ≡ linked r p (drop i ps) → true ≡ holds r p (get_or ps i nil) → whole ≡ linked r (get_or ps i nil) (drop (i + 1) ps)
-  linked_on h e t = e ∙ step h ∙ ap (λ (b : Bool). b && linked r (get_or ps i nil) (drop (i + 1) ps)) (sym t)
+  one_broken : (x : X) (xs : List X) (k : ℕ) → k + 1 < length (x ∷ xs) → Answers false (x ∷ xs) k → false ≡ linked test x xs
+  one_broken x [] k h a = absurd (omega (arith, h))
+  one_broken x (y ∷ ys) zero h a = rw (← a x) refl
+  one_broken x (y ∷ ys) (suc k) h a = both_false (test x y) (linked test y ys) (one_broken y ys k (omega (arith, h)) (next false x (y ∷ ys) k a))
+    where
+      both_false : (a b : Bool) → false ≡ b → false ≡ (a && b)
+      both_false true b e = e
+      both_false false b e = refl
 
-  pub linked_end : length ps ≤ i → whole ≡ linked r p (drop i ps) → true ≡ whole
-  linked_end h e = sym (e ∙ ap (λ (l : List Point). linked r p l) (drop_of_length-le ps h))
-
-pub chained_first : (r : Rule) (ps : List Point) → 1 ≤ length ps → chained r ps ≡ linked r (get_or ps 0 nil) (drop 1 ps)
-chained_first r [] h = absurd (not-suc-le-zero h)
-chained_first r (p ∷ ps) h = refl
+  -- what `is_sorted_by` answers, given the test that its closure computes
+  pub chained_is : (xs : List X) (r : Bool) → IsAllAdjacentAnswer (λ x y b. b ≡ test x y) xs r → r ≡ chained test xs
+  chained_is [] true a = refl
+  chained_is [] false (k, h, a) = absurd (omega (arith, h))
+  chained_is (x ∷ xs) true a = all_linked x xs (λ k h d. a k d h)
+  chained_is (x ∷ xs) false (k, h, a) = one_broken x xs k h a

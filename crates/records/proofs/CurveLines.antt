@@ -1,15 +1,14 @@
 -- The ways through a curve's line, and what a lawful curve keeps.
-use Rattle.std.proofs.Common.{◌≡◌, ℕ, zero, suc, ◌+◌, ◌-◌, ◌*◌, ◌<◌, ◌≤◌, true, false, T, List, [], ◌∷◌, length, get_or, take, drop, Some, None, Ok, Err, Option, sym, refl, ap, subst, le_of_suc-le-suc, not-suc-le-zero, arith, length-drop, take_all, eqb-true}
-use Rattle.records.specs.declared.fault.Cause.TheVariants.{Range, Order, Steep}
+use Rattle.std.proofs.Common.{◌≡◌, ℕ, zero, suc, ◌+◌, ◌-◌, ◌*◌, ◌<◌, ◌≤◌, true, T, List, [], ◌∷◌, length, get_or, take, drop, Some, None, Ok, Option, sym, refl, ap, subst, le_of_suc-le-suc, not-suc-le-zero, arith, length-drop, take_all, eqb-true}
+use Rattle.records.specs.declared.fault.Cause.TheVariants.{Range}
 use Rattle.records.specs.declared.fields.Allowed.{Allowed}
 use Rattle.records.specs.declared.fields.Allowed.TheVariants.{Between}
 use Rattle.records.specs.declared.point.CurveRules.{CurveRules}
 use Rattle.records.specs.declared.point.Point.{Point}
 use Rattle.records.specs.declared.point.Rule.TheVariants.{Gentle}
 use Rattle.records.specs.Cause.{Refusal, refusal, none, unless}
-use Rattle.records.specs.Curve.{chained, curve_complete, curve_line, curve_refusal, lawful_points, flat, paired}
+use Rattle.records.specs.Curve.{holds, chained, curve_complete, curve_line, curve_refusal, lawful_points, flat, paired}
 use Rattle.records.specs.Fields.{allows, outside}
-use Rattle.records.proofs.Chains.{nil}
 use Rattle.records.proofs.Pairs.{flat_paired, paired_length}
 use Rattle.records.proofs.Ranges.{cond_none, first_none, none_found, between}
 
@@ -29,31 +28,30 @@ line_back (n ∷ ns) h =
     let e : length ns ≡ 2 * n = omega (arith, eqb-true (length (n ∷ ns)) (1 + 2 * n) (sym h)) in
     rw (flat_paired n ns e, paired_length n ns (omega arith) (omega arith))
 
-module _ (r : CurveRules) (ns : List ℕ) (complete : true ≡ curve_complete ns) (count : None ≡ outside (Between 1 8 ∷ []) 2 (take 1 ns)) where
-  pub field_refused : (e : Refusal) → Some e ≡ outside (ranges r) 3 (rest ns) → Err e ≡ unless (curve_refusal r ns) ns
-  field_refused e h = let k = rw (rest_is ns) at h in rw (← complete, ← count, ← k)
-
-  module _ (fields : None ≡ outside (ranges r) 3 (rest ns)) where
-    pub order_broken : false ≡ chained r.trend (paired (rest ns)) → Err (refusal Order 0) ≡ unless (curve_refusal r ns) ns
-    order_broken h = let k = rw (rest_is ns) at h in let f = rw (rest_is ns) at fields in rw (← complete, ← count, ← f, ← k)
-
-    pub steep : true ≡ chained r.trend (paired (rest ns)) → false ≡ chained Gentle (paired (rest ns)) → Err (refusal Steep 0) ≡ unless (curve_refusal r ns) ns
-    steep h g = let k = rw (rest_is ns) at h in let l = rw (rest_is ns) at g in let f = rw (rest_is ns) at fields in rw (← complete, ← count, ← f, ← k, ← l)
-
-    pub kept : true ≡ chained r.trend (paired (rest ns)) → true ≡ chained Gentle (paired (rest ns)) → Ok (curve_line (paired (rest ns))) ≡ unless (curve_refusal r ns) ns
-    kept h g =
-        let k = rw (rest_is ns) at h in
-        let l = rw (rest_is ns) at g in
-        let f = rw (rest_is ns) at fields in
-        rw (rest_is ns, ← complete, ← count, ← f, ← k, ← l) (ap (λ (m : List ℕ). Ok m) (line_back ns complete))
-
 -- what is answered for a line is lawful
-pub line_lawful : (r : CurveRules) (ps : List Point) (ns : List ℕ) → Ok (curve_line ps) ≡ unless (curve_refusal r ns) ns → T (lawful_points r ps)
+line_lawful : (r : CurveRules) (ps : List Point) (ns : List ℕ) → Ok (curve_line ps) ≡ unless (curve_refusal r ns) ns → T (lawful_points r ps)
 line_lawful r ps ns e = by (curve_refusal r ns) refl e
   where
     by : (o : Option Refusal) → curve_refusal r ns ≡ o → Ok (curve_line ps) ≡ unless o ns → T (lawful_points r ps)
     by None h e = let k : ns ≡ curve_line ps = cc in subst (λ (m : List ℕ). T (none (curve_refusal r m))) k (rw h tt)
     by (Some x) h e = let z : ◌≡◌ {A = ℕ} 0 1 = cc in absurd (omega arith)
+
+-- a line that has passed the tests makes a lawful curve, and states it
+pub curve_made : (r rules : CurveRules) (ns : List ℕ) (ps : List Point) → r ≡ rules → true ≡ curve_complete ns → None ≡ outside (Between 1 8 ∷ []) 2 (take 1 ns) → None ≡ outside (ranges r) 3 (rest ns) → ps ≡ paired (rest ns) → true ≡ chained (holds r.trend) ps → true ≡ chained (holds Gentle) ps → (Ok (curve_line ps) ≡ unless (curve_refusal rules ns) ns) × T (lawful_points rules ps)
+curve_made r rules ns ps q complete count fields p h g = (e, line_lawful rules ps ns e)
+  where
+    d : paired (rest ns) ≡ paired (drop 1 ns)
+    d = ap paired (rest_is ns)
+
+    e : Ok (curve_line ps) ≡ unless (curve_refusal rules ns) ns
+    e =
+        let k = rw (p, d, q) at h in
+        let l = rw (p, d) at g in
+        let f = rw (rest_is ns, q) at fields in
+        rw (p, d, ← complete, ← count, ← f, ← k, ← l) (ap (λ (m : List ℕ). Ok m) (line_back ns complete))
+
+abbrev pub nil : Point
+nil = record { x = 0; y = 0 }
 
 -- a point in its ranges
 abbrev Inside : CurveRules → Point → Type 0

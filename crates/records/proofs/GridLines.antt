@@ -1,12 +1,12 @@
 -- The ways through a grid's line, and what a lawful grid keeps.
-use Rattle.std.proofs.Common.{◌≡◌, ℕ, ◌+◌, ◌-◌, ◌*◌, ◌<◌, ◌≤◌, true, T, List, [], ◌∷◌, ◌++◌, length, get_or, take, drop, Some, None, Ok, Err, sym, refl, ap, ◌∙◌, mul-le-mul, arith, lit<, length-drop, take-append-drop, length-take, take_all, drop-drop, eqb-true}
+use Rattle.std.proofs.Common.{◌≡◌, ℕ, ◌+◌, ◌-◌, ◌*◌, ◌<◌, ◌≤◌, true, List, [], ◌∷◌, ◌++◌, length, get_or, take, drop, Some, None, Ok, Err, sym, refl, ap, ◌∙◌, arith, lit<, length-drop, take-append-drop, length-take, take_all, drop-drop, eqb-true}
 use Rattle.records.specs.declared.grid.SupportGrid.{SupportGrid}
 use Rattle.records.specs.declared.fields.Allowed.TheVariants.{Between}
 use Rattle.records.specs.Cause.{Refusal, unless}
 use Rattle.records.specs.Fields.{outside}
-use Rattle.records.specs.Grid.{lists_refusal, lawful_lists, lists_line, grid_complete, grid_refusal}
+use Rattle.records.specs.Grid.{values_refusal, lists_refusal, lists_line, grid_complete, grid_refusal}
 use Rattle.records.specs.Lines.{grid_widths, grid_ratios, grid_factors}
-use Rattle.records.proofs.Ranges.{first_none, none_found, allowed_at, between, each_between}
+use Rattle.records.proofs.Ranges.{first_none, none_found, each_between}
 
 -- what the ranges keep
 pub record Kept (ws ms fs : List ℕ) : Type 0 where
@@ -22,107 +22,67 @@ lists_kept ws ms fs e =
     let b = first_none _ _ a.1 in
     let c = first_none _ _ b.1 in
     let d = first_none _ _ c.1 in
-    let counts = allowed_at (Between 1 6 ∷ []) 0 2 (length ws ∷ length ms ∷ []) a.0 in
+    let counts = each_between 1 6 2 (length ws ∷ length ms ∷ []) a.0 in
     record {
-      wide = between 1 6 (length ws) (counts 0 (lit< tt));
-      deep = between 1 6 (length ms) (counts 1 (lit< tt));
+      wide = counts 0 (lit< tt);
+      deep = counts 1 (lit< tt);
       widths = b.0;
       ratios = c.0;
       factors = d.0;
     }
 
--- a full grid has few factors
-pub few_factors : (w m n : ℕ) → w ≤ 6 → m ≤ 6 → n ≡ m * w → n ≤ 36
-few_factors w m n h k e = omega (arith, mul-le-mul k h)
+two_counts : (ns : List ℕ) → 2 ≤ length ns → take 2 ns ≡ get_or ns 0 0 ∷ get_or ns 1 0 ∷ []
+two_counts [] h = absurd (omega (arith, h))
+two_counts (x ∷ []) h = absurd (omega (arith, h))
+two_counts (x ∷ (y ∷ ns)) h = refl
 
-abbrev wide_of : List ℕ → ℕ
-wide_of ns = get_or ns 0 0
+-- the lists, as the code cuts them out of a complete line
+module _ (ns rest ws ms fs : List ℕ) (complete : true ≡ grid_complete ns)
+    (w : ws ≡ take (get_or ns 0 0) (take (length ns - 2) (drop 2 ns))) (r : rest ≡ drop (get_or ns 0 0) (take (length ns - 2) (drop 2 ns)))
+    (m : ms ≡ take (get_or ns 1 0) rest) (f : fs ≡ drop (get_or ns 1 0) rest) where
+  abbrev wide : ℕ
+  wide = get_or ns 0 0
 
-abbrev deep_of : List ℕ → ℕ
-deep_of ns = get_or ns 1 0
+  abbrev deep : ℕ
+  deep = get_or ns 1 0
 
--- the lists of a line, as the code cuts them out
-abbrev pub widths_cut : List ℕ → List ℕ
-widths_cut ns = take (2 + wide_of ns - 2) (drop 2 ns)
+  asked : length ns ≡ 2 + (wide + deep + deep * wide)
+  asked = eqb-true (length ns) (2 + (wide + deep + deep * wide)) (sym complete)
 
-abbrev pub ratios_cut : List ℕ → List ℕ
-ratios_cut ns = take (2 + wide_of ns + deep_of ns - (2 + wide_of ns)) (drop (2 + wide_of ns) ns)
+  whole : take (length ns - 2) (drop 2 ns) ≡ drop 2 ns
+  whole = take_all (length ns - 2) (drop 2 ns) (simp length-drop (omega arith))
 
-abbrev pub factors_cut : List ℕ → List ℕ
-factors_cut ns = take (length ns - (2 + wide_of ns + deep_of ns)) (drop (2 + wide_of ns + deep_of ns) ns)
+  widths_is : ws ≡ take wide (drop 2 ns)
+  widths_is = w ∙ ap (take wide) whole
 
-widths_is : (ns : List ℕ) → widths_cut ns ≡ take (wide_of ns) (drop 2 ns)
-widths_is ns = let e : 2 + wide_of ns - 2 ≡ wide_of ns = omega arith in ap (λ (k : ℕ). take k (drop 2 ns)) e
+  rest_is : rest ≡ drop (2 + wide) ns
+  rest_is = r ∙ ap (drop wide) whole ∙ drop-drop wide 2 ns
 
-ratios_is : (ns : List ℕ) → ratios_cut ns ≡ take (deep_of ns) (drop (2 + wide_of ns) ns)
-ratios_is ns =
-    let e : 2 + wide_of ns + deep_of ns - (2 + wide_of ns) ≡ deep_of ns = omega arith in
-    ap (λ (k : ℕ). take k (drop (2 + wide_of ns) ns)) e
+  ratios_is : ms ≡ take deep (drop (2 + wide) ns)
+  ratios_is = m ∙ ap (take deep) rest_is
 
-factors_is : (ns : List ℕ) → factors_cut ns ≡ drop (2 + wide_of ns + deep_of ns) ns
-factors_is ns = take_all (length ns - (2 + wide_of ns + deep_of ns)) (drop (2 + wide_of ns + deep_of ns) ns) (simp length-drop (omega arith))
+  factors_is : fs ≡ drop (2 + wide + deep) ns
+  factors_is = f ∙ ap (drop deep) rest_is ∙ drop-drop deep (2 + wide) ns
 
--- two counts and the rest
-two_first : (ns : List ℕ) → 2 ≤ length ns → wide_of ns ∷ deep_of ns ∷ drop 2 ns ≡ ns
-two_first [] h = absurd (omega (arith, h))
-two_first (x ∷ []) h = absurd (omega (arith, h))
-two_first (x ∷ (y ∷ ns)) h = refl
+  counts_are : take 2 ns ≡ length ws ∷ length ms ∷ []
+  counts_are =
+      let a : length ws ≡ wide = rw widths_is (simp (length-take, length-drop) (omega (arith, asked))) in
+      let b : length ms ≡ deep = rw ratios_is (simp (length-take, length-drop) (omega (arith, asked))) in
+      rw (a, b) (two_counts ns (omega (arith, asked)))
 
-joined : (w m : ℕ) (ns : List ℕ) → take w (drop 2 ns) ++ (take m (drop (2 + w) ns) ++ drop (2 + w + m) ns) ≡ drop 2 ns
-joined w m ns =
-    ap (λ (l : List ℕ). take w (drop 2 ns) ++ l)
-    (ap (λ (l : List ℕ). take m (drop (2 + w) ns) ++ l) (sym (drop-drop m (2 + w) ns)) ∙ take-append-drop m (drop (2 + w) ns) ∙ sym (drop-drop w 2 ns))
-    ∙ take-append-drop w (drop 2 ns)
-
-module _ (ns : List ℕ) (complete : true ≡ grid_complete ns) where
-  asked : length ns ≡ 2 + (wide_of ns + deep_of ns + deep_of ns * wide_of ns)
-  asked = eqb-true (length ns) (2 + (wide_of ns + deep_of ns + deep_of ns * wide_of ns)) (sym complete)
-
-  pub widths_length : length (widths_cut ns) ≡ wide_of ns
-  widths_length = rw (widths_is ns) (simp (length-take, length-drop) (omega (arith, asked)))
-
-  pub ratios_length : length (ratios_cut ns) ≡ deep_of ns
-  ratios_length = rw (ratios_is ns) (simp (length-take, length-drop) (omega (arith, asked)))
-
-  pub factors_length : length (factors_cut ns) ≡ deep_of ns * wide_of ns
-  factors_length = rw (factors_is ns) (simp length-drop (omega (arith, asked)))
-
-  line_back : lists_line (widths_cut ns) (ratios_cut ns) (factors_cut ns) ≡ ns
+  line_back : lists_line ws ms fs ≡ ns
   line_back =
-      rw (widths_length, ratios_length, widths_is ns, ratios_is ns, factors_is ns, joined (wide_of ns) (deep_of ns) ns)
-      (two_first ns (omega (arith, asked)))
+      ap (λ (l : List ℕ). l ++ (ws ++ (ms ++ fs))) (sym counts_are)
+      ∙ rw (widths_is, m, f, take-append-drop deep rest, rest_is, ← drop-drop wide 2 ns, take-append-drop wide (drop 2 ns)) (take-append-drop 2 ns)
 
-  line_refusal : grid_refusal ns ≡ lists_refusal (widths_cut ns) (ratios_cut ns) (factors_cut ns)
-  line_refusal = rw (widths_is ns, ratios_is ns, factors_is ns, ← complete)
+  refusal_is : None ≡ outside (Between 1 6 ∷ []) 2 (take 2 ns) → grid_refusal ns ≡ values_refusal ws ms fs
+  refusal_is e = let k = rw counts_are at e in rw (← widths_is, ← ratios_is, ← factors_is, ← complete, ← k) refl
 
-  pub lists_refused : (e : Refusal) → Some e ≡ lists_refusal (widths_cut ns) (ratios_cut ns) (factors_cut ns) → Err e ≡ unless (grid_refusal ns) ns
-  lists_refused e h = rw (line_refusal, ← h)
+  pub values_refused : None ≡ outside (Between 1 6 ∷ []) 2 (take 2 ns) → (e : Refusal) → Some e ≡ values_refusal ws ms fs → Err e ≡ unless (grid_refusal ns) ns
+  values_refused k e h = rw (refusal_is k, ← h)
 
-  -- the arrays that hold the lists
-  module _ (found : None ≡ lists_refusal (widths_cut ns) (ratios_cut ns) (factors_cut ns)) (a b c : List ℕ)
-      (ha : take (length (widths_cut ns)) a ≡ widths_cut ns) (hb : take (length (ratios_cut ns)) b ≡ ratios_cut ns) (hc : take (length (factors_cut ns)) c ≡ factors_cut ns) where
-    held_a : take (wide_of ns) a ≡ widths_cut ns
-    held_a = rw widths_length at ha
-
-    held_b : take (deep_of ns) b ≡ ratios_cut ns
-    held_b = rw ratios_length at hb
-
-    held_c : take (deep_of ns * wide_of ns) c ≡ factors_cut ns
-    held_c = rw factors_length at hc
-
-    pub held_lawful : T (lawful_lists (take (wide_of ns) a) (take (deep_of ns) b) (take (deep_of ns * wide_of ns) c))
-    held_lawful = rw (held_a, held_b, held_c, ← found) tt
-
-    pub held_full : length (take (deep_of ns * wide_of ns) c) ≡ length (take (deep_of ns) b) * length (take (wide_of ns) a)
-    held_full = rw (held_a, held_b, held_c, widths_length, ratios_length) factors_length
-
-    pub held_line : Ok (lists_line (take (wide_of ns) a) (take (deep_of ns) b) (take (deep_of ns * wide_of ns) c)) ≡ unless (grid_refusal ns) ns
-    held_line = rw (held_a, held_b, held_c, line_refusal, ← found) (ap (λ (l : List ℕ). Ok l) line_back)
-
-  pub few : None ≡ lists_refusal (widths_cut ns) (ratios_cut ns) (factors_cut ns) → (wide_of ns ≤ 6) × (deep_of ns ≤ 6)
-  few e =
-      let k = lists_kept (widths_cut ns) (ratios_cut ns) (factors_cut ns) e in
-      (omega (arith, k.wide, widths_length), omega (arith, k.deep, ratios_length))
+  pub grid_made : None ≡ outside (Between 1 6 ∷ []) 2 (take 2 ns) → None ≡ values_refusal ws ms fs → Ok (lists_line ws ms fs) ≡ unless (grid_refusal ns) ns
+  grid_made k h = rw (refusal_is k, ← h) (ap (λ (l : List ℕ). Ok l) line_back)
 
 -- what a grid keeps, for those who read it
 pub record Gridded (ws ms fs : List ℕ) : Type 0 where
@@ -139,7 +99,7 @@ gridded g =
     record {
       wide = k.wide;
       deep = k.deep;
-      full = g.full;
+      full = g.lists.full;
       widths = each_between 100 1000 _ (grid_widths g) k.widths;
       ratios = each_between 5 5000 _ (grid_ratios g) k.ratios;
       factors = each_between 1 2000 _ (grid_factors g) k.factors;

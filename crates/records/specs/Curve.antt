@@ -27,15 +27,15 @@ holds NeverFalling p q = nat_lt p.x q.x && nat_le p.y q.y
 holds NeverRising p q = nat_lt p.x q.x && nat_le q.y p.y
 holds Gentle p q = not (too_steep p q)
 
--- r holds of p and the first of the points, and of each of them and the next
-abbrev pub linked : Rule → Point → List Point → Bool
-linked r p [] = true
-linked r p (q ∷ qs) = holds r p q && linked r q qs
+-- a test passes for x and the first of the items, and for each of them and the next
+abbrev pub linked : {X : Type 0} → (X → X → Bool) → X → List X → Bool
+linked test x [] = true
+linked test x (y ∷ ys) = test x y && linked test y ys
 
--- r holds of each point and the next
-abbrev pub chained : Rule → List Point → Bool
-chained r [] = true
-chained r (p ∷ ps) = linked r p ps
+-- a test passes for each item and the next
+abbrev pub chained : {X : Type 0} → (X → X → Bool) → List X → Bool
+chained test [] = true
+chained test (x ∷ xs) = linked test x xs
 
 -- the fields of points
 abbrev pub flat : List Point → List ℕ
@@ -62,7 +62,7 @@ curve_refusal r ns =
     cond (curve_complete ns)
     (first (outside (Between 1 8 ∷ []) 2 (take 1 ns))
     (first (outside (Between 1 r.reach ∷ Between r.least r.most ∷ []) 3 (drop 1 ns))
-    (cond (chained r.trend (paired (drop 1 ns))) (cond (chained Gentle (paired (drop 1 ns))) None (Some (refusal Steep 0))) (Some (refusal Order 0)))))
+    (cond (chained (holds r.trend) (paired (drop 1 ns))) (cond (chained (holds Gentle) (paired (drop 1 ns))) None (Some (refusal Steep 0))) (Some (refusal Order 0)))))
     (Some (refusal Writing 0))
 
 -- nothing is refused in the line that states the points

@@ -1,16 +1,18 @@
 -- The fields of each record, as its line has them after the place.
-use Rattle.std.specs.Prelude.{ℕ, ◌*◌, Bool, true, false, List, [], ◌∷◌, take}
-use Rattle.records.specs.declared.curve.EmbedmentCurve.{EmbedmentCurve}
-use Rattle.records.specs.declared.curve.Points.{Points}
-use Rattle.records.specs.declared.curve.ShapeCurve.{ShapeCurve}
+use Rattle.std.specs.Prelude.{ℕ, Bool, true, false, List, [], ◌∷◌}
+use Rattle.records.specs.declared.curve.Curve.{Curve}
+use Rattle.records.specs.declared.curve.CurveKind.{Ghosts}
+use Rattle.records.specs.declared.curve.Embedment.{Embedment}
+use Rattle.records.specs.declared.curve.Shape.{Shape}
 use Rattle.records.specs.declared.grid.SupportGrid.{SupportGrid}
 use Rattle.records.specs.declared.point.Point.{Point}
 use Rattle.records.specs.declared.section.Section.{Section}
 use Rattle.records.specs.declared.site.LiveLoad.{LiveLoad}
 use Rattle.records.specs.declared.site.LiveLoad.TheVariants.{None, Truck}
 use Rattle.records.specs.declared.site.Site.{Site}
-use Rattle.records.specs.Curve.{curve_line}
+use Rattle.records.specs.Curve.{curve_line, embedment_rules, shape_rules}
 use Rattle.records.specs.Grid.{lists_line}
+use Rattle.records.specs.ShortList.{in_use}
 
 -- from the inside diameter to the stiffness
 abbrev pub section_line : Section → List ℕ
@@ -34,39 +36,46 @@ site_line s =
     s.fill ∷ s.trench ∷ s.water ∷ s.moist_weight ∷ s.saturated_weight ∷ s.water_factor ∷ s.installation_factor
     ∷ s.native_modulus ∷ walls_number s.stable_walls ∷ live_load_number s.live_load ∷ []
 
--- the points that are in use
-abbrev pub in_use : Points → List Point
-in_use p = take p.count p.held
+-- a curve's points
+abbrev pub points_of : {K : Type 0} {g : Ghosts K} → Curve K g → List Point
+points_of c = in_use c.points
 
--- a count, and the points in use
-abbrev pub points_line : Points → List ℕ
-points_line p = curve_line (in_use p)
+-- a count, and the points
+abbrev pub line_of : {K : Type 0} {g : Ghosts K} → Curve K g → List ℕ
+line_of c = curve_line (points_of c)
+
+-- the kinds of curve, since antt has no name for an alias
+abbrev pub EmbedmentCurve : Type 0
+EmbedmentCurve = Curve Embedment (record { rules = embedment_rules })
+
+abbrev pub ShapeCurve : Type 0
+ShapeCurve = Curve Shape (record { rules = shape_rules })
 
 -- pressure in hundredths of psi, modulus in psi
 abbrev pub embedment_points : EmbedmentCurve → List Point
-embedment_points c = in_use c.points
+embedment_points c = points_of c
 
 -- stiffness in hundredths of psi, factor in hundredths
 abbrev pub shape_points : ShapeCurve → List Point
-shape_points c = in_use c.points
+shape_points c = points_of c
 
 abbrev pub embedment_line : EmbedmentCurve → List ℕ
-embedment_line c = curve_line (embedment_points c)
+embedment_line c = line_of c
 
 abbrev pub shape_line : ShapeCurve → List ℕ
-shape_line c = curve_line (shape_points c)
+shape_line c = line_of c
 
--- the width ratios in use, hundredths
+-- the width ratios, hundredths
 abbrev pub grid_widths : SupportGrid → List ℕ
-grid_widths g = take g.wide g.widths
+grid_widths g = in_use g.lists.widths
 
--- the modulus ratios in use, thousandths
+-- the modulus ratios, thousandths
 abbrev pub grid_ratios : SupportGrid → List ℕ
-grid_ratios g = take g.deep g.ratios
+grid_ratios g = in_use g.lists.ratios
 
--- the factors in use, thousandths, a row for each modulus ratio
+-- the factors, thousandths, a row for each modulus ratio
 abbrev pub grid_factors : SupportGrid → List ℕ
-grid_factors g = take (g.deep * g.wide) g.factors
+grid_factors g = in_use g.lists.factors
 
 -- two counts, widths, modulus ratios and factors
 abbrev pub grid_line : SupportGrid → List ℕ

@@ -1,37 +1,41 @@
 ghost use Rattle.std.specs.Prelude.{◌≡◌};
 ghost use Rattle.records.specs.Cause.{number};
 
+use std::error::Error;
+use std::fmt;
+use std::fmt::{Display, Formatter, Write};
+
 /// Why a call, a line or a paper is refused.
 #[derive(Clone, Copy, PartialEq, Eq, Debug)]
 pub enum Cause {
     /// A place outside its count, or no kind of record.
-    Place,
+    Place = 1,
     /// A field or a count outside its range.
-    Range,
+    Range = 2,
     /// An ordering rule of the record is broken.
-    Order,
+    Order = 3,
     /// A curve or a grid is too steep.
-    Steep,
+    Steep = 4,
     /// Nothing to use or withdraw at the place.
-    Empty,
+    Empty = 5,
     /// A trench no wider than the pipe.
-    Trench,
+    Trench = 6,
     /// Water above the ground.
-    Water,
+    Water = 7,
     /// No such figure.
-    Figure,
+    Figure = 8,
     /// A claim of 0, or too large a claim.
-    Claim,
+    Claim = 9,
     /// The tallies and the new claims are too many.
-    Tally,
+    Tally = 10,
     /// A letter, a number of fields or a number badly written.
-    Writing,
+    Writing = 11,
     /// A line or a call of the other part.
-    Part,
+    Part = 12,
     /// The last line, or what it states, is wrong.
-    Trailer,
+    Trailer = 13,
     /// The paper is too long.
-    Length,
+    Length = 14,
 }
 
 /// A cause, and the number of the field at fault, 0 where it lies in no one field.
@@ -64,21 +68,14 @@ impl Cause {
     pub fn number(self) -> u8
         ensures { result ≡ number self }
     {
-        match self {
-            Cause::Place => 1,
-            Cause::Range => 2,
-            Cause::Order => 3,
-            Cause::Steep => 4,
-            Cause::Empty => 5,
-            Cause::Trench => 6,
-            Cause::Water => 7,
-            Cause::Figure => 8,
-            Cause::Claim => 9,
-            Cause::Tally => 10,
-            Cause::Writing => 11,
-            Cause::Part => 12,
-            Cause::Trailer => 13,
-            Cause::Length => 14,
-        }
+        self as u8
     }
 }
+
+impl Display for Fault {
+    fn fmt<W: Write>(&self, f: &mut Formatter<W>) -> fmt::Result {
+        write!(f, "cause {} in field {}", self.cause.number(), self.field)
+    }
+}
+
+impl Error for Fault {}

@@ -1,19 +1,146 @@
-ghost use Rattle.std.specs.Prelude.{◌≡◌, ◌*◌, ◌≤◌, T, length, take};
-ghost use Rattle.records.specs.Grid.{lawful_lists};
+ghost use Rattle.std.specs.Prelude.{◌≡◌, ◌*◌, ◌<◌, T, length};
+ghost use Rattle.records.specs.Cause.{refused, answered, unless};
+ghost use Rattle.records.specs.Grid.{rising, column, columns_hold, values_refusal, lawful_lists, grid_complete, grid_refusal};
+ghost use Rattle.records.specs.ShortList.{in_use};
+
+use crate::fault::Fault;
+use crate::fields::{Allowed, in_ranges};
+use crate::point::{Point, Rule};
+use crate::short_list::ShortList;
+
+/// The lists of a support grid.
+#[derive(Clone, Copy)]
+struct Lists {
+    /// Trench width over outside diameter, hundredths.
+    widths: ShortList<u64, 6>,
+    /// Native over embedment modulus, thousandths.
+    ratios: ShortList<u64, 6>,
+    /// Support factors, thousandths: a row of the widths for each modulus ratio.
+    factors: ShortList<u64, 36>,
+    ghost full: { length (in_use factors) ≡ length (in_use ratios) * length (in_use widths) },
+}
 
 /// How far the native soil and the trench support the embedment.
 #[derive(Clone, Copy)]
 pub struct SupportGrid {
-    /// Trench width over outside diameter, hundredths: the first `wide` are in use.
-    pub(crate) widths: [u64; 6],
-    /// Native over embedment modulus, thousandths: the first `deep` are in use.
-    pub(crate) ratios: [u64; 6],
-    /// Support factors, thousandths: a row of `wide` for each modulus ratio.
-    pub(crate) factors: [u64; 36],
-    pub(crate) wide: usize,
-    pub(crate) deep: usize,
-    ghost narrow: { wide ≤ 6 },
-    ghost shallow: { deep ≤ 6 },
-    ghost full: { length (take (deep * wide) factors) ≡ length (take deep ratios) * length (take wide widths) },
-    ghost lawful: { T (lawful_lists (take wide widths) (take deep ratios) (take (deep * wide) factors)) },
+    lists: Lists,
+    ghost lawful: { T (lawful_lists (in_use lists.widths) (in_use lists.ratios) (in_use lists.factors)) },
+}
+
+fn is_rising(numbers: &[u64]) -> bool
+    ensures { result ≡ rising numbers.now }
+{
+    numbers.is_sorted_by(|n, next| n < next)
+}
+
+impl Lists {
+    // The factors over the modulus ratios at one of the widths.
+    fn column(&self, place: usize) -> ShortList<Point, 6>
+        requires { place < length (in_use self.now.widths) }
+        ensures { in_use result ≡ column (length (in_use self.now.widths)) place (in_use self.now.ratios) (in_use self.now.factors) }
+    {
+        let mut points = ShortList::new();
+        let rows = self
+            .factors
+            .as_slice()
+            .chunks_exact(self.widths.as_slice().len());
+        for (ratio, row) in self.ratios.as_slice().iter().zip(rows) {
+            points.push(Point {
+                x: *ratio,
+                y: row[place],
+            });
+        }
+        points
+    }
+
+    // Whether a rule holds along the modulus ratio at every width.
+    fn columns_hold(&self, rule: Rule) -> bool
+        ensures { result ≡ columns_hold rule (in_use self.now.widths) (in_use self.now.ratios) (in_use self.now.factors) }
+    {
+        (0..self.widths.as_slice().len()).all(|place| rule.holds_along(
+            self.column(place).as_slice(),
+        ))
+    }
+
+    // Why the values make no grid.
+    fn check(&self) -> Result<(), Fault>
+        ensures { refused result ≡ values_refusal (in_use self.now.widths) (in_use self.now.ratios) (in_use self.now.factors) }
+    {
+        let widths = self.widths.as_slice();
+        let ratios = self.ratios.as_slice();
+        let ratio_field = 4 + widths.len() as u64;
+        let factor_field = ratio_field + ratios.len() as u64;
+        in_ranges(&[Allowed::Between(100, 1_000)], 4, widths)?;
+        in_ranges(&[Allowed::Between(5, 5_000)], ratio_field, ratios)?;
+        in_ranges(
+            &[Allowed::Between(1, 2_000)],
+            factor_field,
+            self.factors.as_slice(),
+        )?;
+        if !is_rising(widths) || !self.columns_hold(Rule::NeverFalling) {
+            return Err(Fault::DISORDERED);
+        }
+        if !self.columns_hold(Rule::Gentle) {
+            return Err(Fault::TOO_STEEP);
+        }
+        Ok(())
+    }
+}
+
+/// Whether a grid's line has the fields that its counts ask for.
+pub fn grid_complete(fields: &[u64]) -> bool
+    ensures { result ≡ grid_complete fields.now }
+{
+    match fields {
+        [wide, deep, rest @ ..] => {
+            let wide = *wide as u128;
+            let deep = *deep as u128;
+            rest.len() as u128 == wide + deep + deep * wide
+        }
+        _ => false,
+    }
+}
+
+impl SupportGrid {
+    ghost use Rattle.records.specs.Lines.{grid_line, grid_widths, grid_ratios, grid_factors};
+
+    /// The grid of these fields, as its line has them after the place, or why there is none.
+    pub fn new(fields: &[u64]) -> Result<Self, Fault>
+        ensures { answered grid_line result ≡ unless (grid_refusal fields.now) fields.now }
+    {
+        if !grid_complete(fields) {
+            return Err(Fault::MISCOUNTED);
+        }
+        in_ranges(&[Allowed::Between(1, 6)], 2, &fields[..2])?;
+        let (widths, rest) = fields[2..].split_at(fields[0] as usize);
+        let (ratios, factors) = rest.split_at(fields[1] as usize);
+        let lists = Lists {
+            widths: ShortList::from_slice(widths),
+            ratios: ShortList::from_slice(ratios),
+            factors: ShortList::from_slice(factors),
+        };
+        lists.check()?;
+        Ok(SupportGrid { lists })
+    }
+
+    /// The width ratios in use.
+    pub fn widths(&self) -> &[u64]
+        ensures { result.now ≡ grid_widths self.now }
+    {
+        self.lists.widths.as_slice()
+    }
+
+    /// The modulus ratios in use.
+    pub fn ratios(&self) -> &[u64]
+        ensures { result.now ≡ grid_ratios self.now }
+    {
+        self.lists.ratios.as_slice()
+    }
+
+    /// The factors in use, a row for each modulus ratio.
+    pub fn factors(&self) -> &[u64]
+        ensures { result.now ≡ grid_factors self.now }
+    {
+        self.lists.factors.as_slice()
+    }
 }

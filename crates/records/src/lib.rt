@@ -2,21 +2,17 @@
 #![tactic(auto)]
 
 mod curve;
-mod curves;
 mod fault;
 mod fields;
-mod fixed;
 mod grid;
-mod grids;
 mod point;
 mod section;
+mod short_list;
 mod site;
 
-pub use curve::{EmbedmentCurve, ShapeCurve};
-pub use curves::curve_complete;
+pub use curve::{EmbedmentCurve, ShapeCurve, curve_complete};
 pub use fault::{Cause, Fault};
-pub use grid::SupportGrid;
-pub use grids::grid_complete;
+pub use grid::{SupportGrid, grid_complete};
 pub use point::Point;
 pub use section::Section;
 pub use site::{LiveLoad, Site};

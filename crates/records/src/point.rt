@@ -2,7 +2,7 @@ ghost use Rattle.std.specs.Prelude.{◌≡◌};
 ghost use Rattle.records.specs.Curve.{holds, chained};
 
 /// A point of a curve, in the units of its kind.
-#[derive(Clone, Copy, PartialEq, Eq, Debug)]
+#[derive(Clone, Copy, PartialEq, Eq, Debug, Default)]
 pub struct Point {
     pub x: u64,
     pub y: u64,
@@ -41,20 +41,9 @@ impl Rule {
 
     /// Whether this holds of each point and the next.
     pub fn holds_along(self, points: &[Point]) -> bool
-        ensures { result ≡ chained self points.now }
+        ensures { result ≡ chained (holds self) points.now }
     {
-        let [first, ..] = points else {
-            return true;
-        };
-        let mut p = *first;
-        for i in 1..points.len() {
-            let q = points[i];
-            if !self.holds(p, q) {
-                return false;
-            }
-            p = q;
-        }
-        true
+        points.is_sorted_by(|p, q| self.holds(*p, *q))
     }
 }
 

@@ -1,4 +1,9 @@
-ghost use Rattle.std.specs.Prelude.{◌<◌, ◌≤◌};
+ghost use Rattle.std.specs.Prelude.{◌≡◌, ◌<◌, ◌≤◌};
+ghost use Rattle.records.specs.Cause.{answered, unless};
+ghost use Rattle.records.specs.Section.{section_refusal};
+
+use crate::fault::Fault;
+use crate::fields::{Allowed, in_ranges};
 
 /// A pipe section, of thermoplastic wall.
 #[derive(Clone, Copy)]
@@ -31,4 +36,71 @@ pub struct Section {
     ghost moduli: { (1000 ≤ long_modulus) × (long_modulus ≤ short_modulus) × (short_modulus ≤ 1000000) },
     ghost limits: { (1 ≤ compression_limit) × (compression_limit ≤ 2000) × (1 ≤ tension_limit) × (tension_limit ≤ 2000) },
     ghost stiffnesses: { stiffness ≤ 100000 },
+}
+
+// What the fields may hold.
+const DIAMETER: Allowed = Allowed::Between(3_000, 120_000);
+
+const AREA: Allowed = Allowed::Between(100, 100_000);
+
+const MOMENT: Allowed = Allowed::Between(100, 100_000_000);
+
+const MODULUS: Allowed = Allowed::Between(1_000, 1_000_000);
+
+const STRAIN: Allowed = Allowed::Between(1, 2_000);
+
+const STIFFNESS: Allowed = Allowed::Between(0, 100_000);
+
+impl Section {
+    ghost use Rattle.records.specs.Lines.{section_line};
+
+    /// The section of these fields, as its line has them after the place, or why there is none.
+    pub fn new(fields: &[u64]) -> Result<Self, Fault>
+        ensures { answered section_line result ≡ unless (section_refusal fields.now) fields.now }
+    {
+        let &[
+            inside,
+            centroid,
+            outside,
+            gross_area,
+            effective_area,
+            moment,
+            short_modulus,
+            long_modulus,
+            compression_limit,
+            tension_limit,
+            stiffness,
+        ] = fields
+        else {
+            return Err(Fault::MISCOUNTED);
+        };
+        in_ranges(
+            &[
+                DIAMETER, DIAMETER, DIAMETER, AREA, AREA, MOMENT, MODULUS, MODULUS, STRAIN, STRAIN,
+                STIFFNESS,
+            ],
+            2,
+            fields,
+        )?;
+        if inside >= centroid
+            || centroid >= outside
+            || effective_area > gross_area
+            || long_modulus > short_modulus
+        {
+            return Err(Fault::DISORDERED);
+        }
+        Ok(Section {
+            inside,
+            centroid,
+            outside,
+            gross_area,
+            effective_area,
+            moment,
+            short_modulus,
+            long_modulus,
+            compression_limit,
+            tension_limit,
+            stiffness,
+        })
+    }
 }

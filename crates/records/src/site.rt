@@ -1,6 +1,11 @@
 ghost use Rattle.std.specs.Prelude.{◌≡◌, ◌≤◌, true};
+ghost use Rattle.records.specs.Cause.{answered, unless};
 ghost use Rattle.records.specs.Fields.{allows};
+ghost use Rattle.records.specs.Site.{site_refusal};
 ghost use Rattle.records.specs.declared.fields.Allowed.TheVariants.{Among};
+
+use crate::fault::Fault;
+use crate::fields::{Allowed, in_ranges};
 
 /// What rolls over the pipe.
 #[derive(Clone, Copy, PartialEq, Eq, Debug)]
@@ -38,4 +43,60 @@ pub struct Site {
     ghost factors: { (100 ≤ water_factor) × (water_factor ≤ 130) },
     ghost installations: { (115 ≤ installation_factor) × (installation_factor ≤ 150) × (true ≡ allows (Among 115 135 150) installation_factor) },
     ghost natives: { (50 ≤ native_modulus) × (native_modulus ≤ 50000) },
+}
+
+impl Site {
+    ghost use Rattle.records.specs.Lines.{site_line};
+
+    /// The site of these fields, as its line has them after the place, or why there is none.
+    pub fn new(fields: &[u64]) -> Result<Self, Fault>
+        ensures { answered site_line result ≡ unless (site_refusal fields.now) fields.now }
+    {
+        let &[
+            fill,
+            trench,
+            water,
+            moist_weight,
+            saturated_weight,
+            water_factor,
+            installation_factor,
+            native_modulus,
+            walls,
+            live_load,
+        ] = fields
+        else {
+            return Err(Fault::MISCOUNTED);
+        };
+        in_ranges(
+            &[
+                Allowed::Between(12_001, 1_200_000),
+                Allowed::Between(1, 1_200_000),
+                Allowed::Between(0, 1_260_000),
+                Allowed::Between(500, 2_000),
+                Allowed::Between(800, 2_000),
+                Allowed::Between(100, 130),
+                Allowed::Among(115, 135, 150),
+                Allowed::Between(50, 50_000),
+                Allowed::Between(0, 1),
+                Allowed::Between(0, 1),
+            ],
+            2,
+            fields,
+        )?;
+        Ok(Site {
+            fill,
+            trench,
+            water,
+            moist_weight,
+            saturated_weight,
+            water_factor,
+            installation_factor,
+            native_modulus,
+            stable_walls: walls == 1,
+            live_load: match live_load {
+                1 => LiveLoad::Truck,
+                _ => LiveLoad::None,
+            },
+        })
+    }
 }
