@@ -1,5 +1,5 @@
 -- The numbers of the answers, and the values that they carry.
-use Rattle.std.specs.Prelude.{ℕ, Bool, true, false, cond, ◌||◌, List, [], ◌∷◌, Some, None, Option, ◌==◌}
+use Rattle.std.specs.Prelude.{◌≡◌, ℕ, Bool, true, false, cond, ◌||◌, List, [], ◌∷◌, Some, None, Option, Result, MatchResult, ◌==◌}
 use Rattle.judging.specs.declared.answer.Figure.{Figure}
 use Rattle.judging.specs.declared.answer.Figure.TheVariants.{PrismPressure, SoilModulus, HoopStiffness, VerticalArching, DesignThrust, ThrustStrain, ServiceStrain, Deflection as DeflectionFigure}
 use Rattle.judging.specs.declared.answer.LimitState.{LimitState}
@@ -10,6 +10,7 @@ use Rattle.judging.specs.declared.answer.State.{State}
 use Rattle.judging.specs.declared.answer.State.TheVariants.{Holds, Fails, Undecided, NotApplied}
 use Rattle.judging.specs.declared.answer.Verdict.{Verdict}
 use Rattle.judging.specs.declared.answer.Verdict.TheVariants.{Accepted, Rejected, Undecided as NoVerdict}
+use Rattle.judging.specs.declared.answer.UnknownFigure.{UnknownFigure}
 use Rattle.judging.specs.declared.sheet.Sheet.{Sheet}
 
 abbrev pub state_number : State → ℕ
@@ -95,3 +96,7 @@ numbered_in n (f ∷ fs) = cond (n == figure_number f) (Some f) (numbered_in n f
 
 abbrev pub figure_numbered : ℕ → Option Figure
 figure_numbered n = numbered_in n figure_list
+
+-- the figure with this number, or an error with a number that is no figure's
+abbrev pub Numbers : ℕ → Result Figure UnknownFigure → Type 0
+Numbers n r = MatchResult r (λ f. figure_numbered n ≡ Some f) (λ e. (e.0 ≡ n) × (figure_numbered n ≡ None))

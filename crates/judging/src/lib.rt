@@ -9,8 +9,9 @@ mod marking;
 mod sheet;
 mod sides;
 mod verdicts;
+mod worked_case;
 
-pub use answer::{Figure, LimitState, Mark, State, Verdict};
+pub use answer::{Figure, LimitState, Mark, State, UnknownFigure, Verdict};
 pub use claim::Claimed;
 pub use claims::Claim;
 pub use limits::judge;
