@@ -4,6 +4,12 @@
 ghost use Rattle.equations.specs.Regrouped.{AllRegroup, ArchingLaw};
 ghost use Rattle.equations.specs.Tabulated.{Tabulated};
 
+mod figure;
+mod limit_state;
+
+pub use figure::{Figure, UnknownFigure};
+pub use limit_state::LimitState;
+
 /// The forms that a computation takes are the equations' own numbers and decisions.
 pub fn forms_are_the_equations()
     ensures { AllRegroup }

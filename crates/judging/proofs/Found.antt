@@ -3,10 +3,9 @@ use Rattle.std.proofs.Common.{◌≡◌, Bool, ◌||◌, List, [], ◌∷◌, ma
 use Rattle.std.specs.List.{find, list_any}
 use Rattle.std.specs.Option.{option_map}
 use Rattle.judging.specs.Answers.{failing, unsettled, first_failing, any_unsettled, decided}
-use Rattle.judging.specs.declared.answer.LimitState.{LimitState}
+use Rattle.equations.specs.declared.limit_state.LimitState.{LimitState}
 use Rattle.judging.specs.declared.answer.State.{State}
 use Rattle.judging.specs.declared.answer.State.TheVariants.{Holds, Fails, Undecided, NotApplied}
-use Rattle.judging.specs.declared.answer.Verdict.{Verdict}
 use Rattle.judging.specs.declared.answer.Verdict.TheVariants.{Rejected}
 
 first_found : (ps : List (LimitState × State)) → option_map (λ p. p.0) (find (λ p. failing p.1) ps) ≡ first_failing (map (λ p. p.0) ps) (map (λ p. p.1) ps)

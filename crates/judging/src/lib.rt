@@ -11,9 +11,10 @@ mod sides;
 mod verdicts;
 mod worked_case;
 
-pub use answer::{Figure, LimitState, Mark, State, UnknownFigure, Verdict};
+pub use answer::{Mark, State, Verdict};
 pub use claim::Claimed;
 pub use claims::Claim;
+pub use equations::{Figure, LimitState, UnknownFigure};
 pub use limits::judge;
 pub use marking::{figure, mark, mark_all};
 pub use sheet::Sheet;

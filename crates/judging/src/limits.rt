@@ -6,7 +6,7 @@ ghost use Rattle.judging.specs.Answers.{state_number};
 ghost use Rattle.judging.specs.WorkedCase.{design, IsWorkedOut};
 ghost use Rattle.judging.specs.Judged.{Judged, Asked, SheetJudged, Means};
 
-use crate::answer::{LimitState, State};
+use crate::answer::State;
 use crate::sheet::Sheet;
 use crate::sides::{
     bending_strain, buckling_cube, compression_allowed, flexibility, hold_down, tension_allowed,
@@ -15,6 +15,7 @@ use crate::sides::{
 use crate::verdicts::verdict;
 use crate::worked_case::WorkedCase;
 use enclosure::Arithmetic;
+use equations::LimitState;
 use quantities::{Case, cube, parts};
 
 /// Whether the left side is at most the right one.
@@ -27,7 +28,7 @@ fn state<A: Arithmetic>(left: A, right: A) -> State
 impl<'a, A: Arithmetic> WorkedCase<'a, A> {
     fn thrust(&self) -> State
         requires { IsWorkedOut A.model self.now }
-        ensures { Judged A.model (left 1 (design self.now)) (right 1 (design self.now)) result }
+        ensures { Judged A.model (left LimitState.Thrust (design self.now)) (right LimitState.Thrust (design self.now)) result }
     {
         let allowed = parts(self.given.section.compression_limit, 10_000);
         state(self.worked.thrust_strain, allowed)
@@ -35,7 +36,7 @@ impl<'a, A: Arithmetic> WorkedCase<'a, A> {
 
     fn net_tension(&self) -> State
         requires { IsWorkedOut A.model self.now }
-        ensures { Judged A.model (left 2 (design self.now)) (right 2 (design self.now)) result }
+        ensures { Judged A.model (left LimitState.NetTension (design self.now)) (right LimitState.NetTension (design self.now)) result }
     {
         let bent = bending_strain(&self.worked);
         let limit = parts(self.given.section.tension_limit, 10_000);
@@ -45,7 +46,7 @@ impl<'a, A: Arithmetic> WorkedCase<'a, A> {
 
     fn combined(&self) -> State
         requires { IsWorkedOut A.model self.now }
-        ensures { Judged A.model (left 3 (design self.now)) (right 3 (design self.now)) result }
+        ensures { Judged A.model (left LimitState.Combined (design self.now)) (right LimitState.Combined (design self.now)) result }
     {
         let bent = bending_strain(&self.worked);
         let pressed = bent.add(self.worked.thrust_strain);
@@ -56,7 +57,7 @@ impl<'a, A: Arithmetic> WorkedCase<'a, A> {
 
     fn deflection(&self) -> State
         requires { IsWorkedOut A.model self.now }
-        ensures { Judged A.model (left 4 (design self.now)) (right 4 (design self.now)) result }
+        ensures { Judged A.model (left LimitState.Deflection (design self.now)) (right LimitState.Deflection (design self.now)) result }
     {
         let share = parts::<A>(5, 100);
         let allowed = share.mul(self.worked.measures.inside);
@@ -65,7 +66,7 @@ impl<'a, A: Arithmetic> WorkedCase<'a, A> {
 
     fn buckling(&self) -> State
         requires { IsWorkedOut A.model self.now }
-        ensures { Judged A.model (left 5 (design self.now)) (right 5 (design self.now)) result }
+        ensures { Judged A.model (left LimitState.Buckling (design self.now)) (right LimitState.Buckling (design self.now)) result }
     {
         let strain = cube(self.worked.thrust_strain);
         let allowed = buckling_cube(&self.worked);
@@ -74,7 +75,7 @@ impl<'a, A: Arithmetic> WorkedCase<'a, A> {
 
     fn flexible(&self) -> State
         requires { IsWorkedOut A.model self.now }
-        ensures { Judged A.model (left 6 (design self.now)) (right 6 (design self.now)) result }
+        ensures { Judged A.model (left LimitState.Flexibility (design self.now)) (right LimitState.Flexibility (design self.now)) result }
     {
         let give = flexibility(&self.worked.measures);
         let allowed = parts(95, 1_000);
@@ -83,7 +84,7 @@ impl<'a, A: Arithmetic> WorkedCase<'a, A> {
 
     fn buoyancy(&self) -> State
         requires { IsWorkedOut A.model self.now }
-        ensures { Asked (buoyant (design self.now)) (Judged A.model (left 7 (design self.now)) (right 7 (design self.now)) result) result }
+        ensures { Asked (buoyant (design self.now)) (Judged A.model (left LimitState.Buoyancy (design self.now)) (right LimitState.Buoyancy (design self.now)) result) result }
     {
         if self.given.site.water == 0 {
             return State::NotApplied;

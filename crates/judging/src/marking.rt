@@ -1,6 +1,6 @@
 ghost use Rattle.std.specs.Prelude.{◌≡◌};
 ghost use Rattle.enclosure.specs.Answer.{number};
-ghost use Rattle.judging.specs.Answers.{mark_number, figure_number};
+ghost use Rattle.judging.specs.Answers.{mark_number};
 ghost use Rattle.quantities.specs.Case.{design_of};
 ghost use Rattle.judging.specs.Claims.{ClaimMarked, ClaimsMarked};
 ghost use Rattle.judging.specs.WorkedCase.{design, IsWorkedOut};
@@ -8,11 +8,12 @@ ghost use Rattle.judging.specs.Judged.{Marked, ReadOutOf, mark_of};
 ghost use Rattle.judging.specs.Figured.{FigureKnown, MillionthsKnown};
 ghost use Rattle.equations.specs.Figures.{figure_millionths};
 
-use crate::answer::{Figure, Mark};
+use crate::answer::Mark;
 use crate::claim::Claimed;
 use crate::claims::Claim;
 use crate::worked_case::WorkedCase;
 use enclosure::{Arithmetic, Comparison, ReadOut};
+use equations::Figure;
 use quantities::{Case, parts};
 
 fn marked(above: Comparison, below: Comparison) -> Mark
@@ -28,7 +29,7 @@ fn marked(above: Comparison, below: Comparison) -> Mark
 impl<'a, A: Arithmetic> WorkedCase<'a, A> {
     fn chosen(&self, figure: Figure) -> A
         requires { IsWorkedOut A.model self.now }
-        ensures { FigureKnown A.model (design self.now) (figure_number figure) result }
+        ensures { FigureKnown A.model (design self.now) figure result }
     {
         let worked = &self.worked;
         match figure {
@@ -45,14 +46,14 @@ impl<'a, A: Arithmetic> WorkedCase<'a, A> {
 
     fn millionths(&self, figure: Figure) -> A
         requires { IsWorkedOut A.model self.now }
-        ensures { MillionthsKnown A.model (design self.now) (figure_number figure) result }
+        ensures { MillionthsKnown A.model (design self.now) figure result }
     {
         self.chosen(figure).mul(A::whole(1_000_000))
     }
 
     fn mark(&self, figure: Figure, claim: Claimed) -> Mark
         requires { IsWorkedOut A.model self.now }
-        ensures { Marked A.model claim.value (figure_millionths (figure_number figure) (design self.now)) result }
+        ensures { Marked A.model claim.value (figure_millionths figure (design self.now)) result }
     {
         let value = self.millionths(figure);
         let low = parts::<A>(99 * claim.value, 100);
@@ -79,7 +80,7 @@ impl<'a, A: Arithmetic> WorkedCase<'a, A> {
 
 /// Marks a claim on a figure: right within one hundredth of the claim, wrong outside.
 pub fn mark<A: Arithmetic>(case: &Case, figure: Figure, claim: Claimed) -> Mark
-    ensures { Marked A.model claim.value (figure_millionths (figure_number figure) (design_of case.now)) result }
+    ensures { Marked A.model claim.value (figure_millionths figure (design_of case.now)) result }
 {
     WorkedCase::<A>::of(case).mark(figure, claim)
 }
@@ -96,7 +97,7 @@ pub fn mark_all<A: Arithmetic>(case: &Case, claims: &mut [Claim])
 
 /// A figure in millionths: the whole numbers below it and above it.
 pub fn figure<A: ReadOut>(case: &Case, figure: Figure) -> (u64, u64)
-    ensures { ReadOutOf A.Arithmetic.model.fineness (figure_millionths (figure_number figure) (design_of case.now)) result.0 result.1 }
+    ensures { ReadOutOf A.Arithmetic.model.fineness (figure_millionths figure (design_of case.now)) result.0 result.1 }
 {
     let value = WorkedCase::<A>::of(case).millionths(figure);
     let below = value.floor().unwrap();

@@ -1,7 +1,8 @@
 ghost use Rattle.std.specs.Prelude.{◌≡◌, map};
 ghost use Rattle.judging.specs.Answers.{first_failing, any_unsettled, decided};
 
-use crate::answer::{LimitState, State, Verdict};
+use crate::answer::{State, Verdict};
+use equations::LimitState;
 
 /// Rejected naming the first limit state that fails, else undecided if one is, else accepted.
 pub(crate) fn verdict(states: &[(LimitState, State)]) -> Verdict
