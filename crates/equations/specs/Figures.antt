@@ -1,5 +1,5 @@
--- The eight figures that an answer may be asked for, by number.
-use Rattle.std.specs.Prelude.{List, [], ◌∷◌, ℕ, ◌-◌, slice_index_or}
+-- The eight figures that an answer may be asked for, and their numbers.
+use Rattle.std.specs.Prelude.{◌≡◌, ℕ, cond, List, [], ◌∷◌, Some, None, Option, Result, MatchResult, ◌==◌}
 use Rattle.fraction.specs.Fraction.{Fraction, whole, ◌⊗◌}
 use Rattle.equations.specs.Design.{Design}
 use Rattle.equations.specs.Pressures.{prism_pressure}
@@ -7,17 +7,48 @@ use Rattle.equations.specs.Soil.{soil_modulus}
 use Rattle.equations.specs.Thrust.{hoop_stiffness, vertical_arching, design_thrust}
 use Rattle.equations.specs.Strains.{thrust_strain, service_strain}
 use Rattle.equations.specs.Deflection.{deflection}
+use Rattle.equations.specs.declared.figure.Figure.{Figure}
+use Rattle.equations.specs.declared.figure.Figure.TheVariants.{PrismPressure, SoilModulus, HoopStiffness, VerticalArching, DesignThrust, ThrustStrain, ServiceStrain, Deflection}
+use Rattle.equations.specs.declared.figure.UnknownFigure.{UnknownFigure}
 
 -- Psp, Ms, SH, VAF, TD, εc, εs and Δ
-abbrev pub figures : Design → List Fraction
-figures d =
-    prism_pressure d ∷ soil_modulus d ∷ hoop_stiffness d ∷ vertical_arching d ∷ design_thrust d ∷ thrust_strain d ∷ service_strain d
-    ∷ deflection d ∷ []
-
--- the k-th, from 1
-abbrev pub figure : ℕ → Design → Fraction
-figure k d = slice_index_or (figures d) (k - 1) (whole 0)
+abbrev pub figure : Figure → Design → Fraction
+figure PrismPressure d = prism_pressure d
+figure SoilModulus d = soil_modulus d
+figure HoopStiffness d = hoop_stiffness d
+figure VerticalArching d = vertical_arching d
+figure DesignThrust d = design_thrust d
+figure ThrustStrain d = thrust_strain d
+figure ServiceStrain d = service_strain d
+figure Deflection d = deflection d
 
 -- in millionths
-abbrev pub figure_millionths : ℕ → Design → Fraction
-figure_millionths k d = figure k d ⊗ whole 1000000
+abbrev pub figure_millionths : Figure → Design → Fraction
+figure_millionths f d = figure f d ⊗ whole 1000000
+
+-- the number of each
+abbrev pub figure_number : Figure → ℕ
+figure_number PrismPressure = 1
+figure_number SoilModulus = 2
+figure_number HoopStiffness = 3
+figure_number VerticalArching = 4
+figure_number DesignThrust = 5
+figure_number ThrustStrain = 6
+figure_number ServiceStrain = 7
+figure_number Deflection = 8
+
+-- the figure of a number
+abbrev pub figure_list : List Figure
+figure_list =
+    PrismPressure ∷ SoilModulus ∷ HoopStiffness ∷ VerticalArching ∷ DesignThrust ∷ ThrustStrain ∷ ServiceStrain ∷ Deflection ∷ []
+
+abbrev pub numbered_in : ℕ → List Figure → Option Figure
+numbered_in n [] = None
+numbered_in n (f ∷ fs) = cond (n == figure_number f) (Some f) (numbered_in n fs)
+
+abbrev pub figure_numbered : ℕ → Option Figure
+figure_numbered n = numbered_in n figure_list
+
+-- the figure with this number, or an error with a number that is no figure's
+abbrev pub Numbers : ℕ → Result Figure UnknownFigure → Type 0
+Numbers n r = MatchResult r (λ f. figure_numbered n ≡ Some f) (λ e. (e.0 ≡ n) × (figure_numbered n ≡ None))

@@ -1,5 +1,5 @@
 -- The seven limit states: each asks that its left side is at most its right side.
-use Rattle.std.specs.Prelude.{Bool, not, List, [], ◌∷◌, ℕ, ◌-◌, ◌==◌, slice_index_or}
+use Rattle.std.specs.Prelude.{Bool, not, ℕ, ◌==◌}
 use Rattle.fraction.specs.Fraction.{Fraction, whole, ◌⊕◌, ◌⊗◌, ◌⊘◌}
 use Rattle.equations.specs.Units.{tenths, hundredths, thousandths, squared, cubed}
 use Rattle.equations.specs.Design.{Design, inside_diameter, centroid_diameter, outside_diameter, effective_area, wall_moment, short_modulus, long_modulus, compression_limit, tension_limit, fill_depth}
@@ -8,6 +8,8 @@ use Rattle.equations.specs.Soil.{soil_modulus}
 use Rattle.equations.specs.Strains.{thrust_strain, least_strain, service_strain}
 use Rattle.equations.specs.Bending.{bending_factor}
 use Rattle.equations.specs.Deflection.{deflection}
+use Rattle.equations.specs.declared.limit_state.LimitState.{LimitState}
+use Rattle.equations.specs.declared.limit_state.LimitState.TheVariants.{Thrust, NetTension, Combined, Deflection, Buckling, Flexibility, Buoyancy}
 
 -- 0.05 g Di/D: strain of bending at a deflection of 5 in 100, before the service strain is taken off
 unfoldable pub bending_strain : Design → Fraction
@@ -42,23 +44,35 @@ uplift d = pi ⊘ whole 4 ⊗ squared (outside_diameter d) ⊗ tenths 624 ⊘ wh
 unfoldable pub hold_down : Design → Fraction
 hold_down d = thousandths 675 ⊗ prism_pressure d ⊗ outside_diameter d
 
--- thrust, net tension, combined compression, deflection, buckling, flexibility, buoyancy
-abbrev pub lefts : Design → List Fraction
-lefts d =
-    thrust_strain d ∷ bending_strain d ∷ (bending_strain d ⊕ thrust_strain d) ∷ deflection d ∷ cubed (thrust_strain d) ∷ flexibility d
-    ∷ uplift d ∷ []
+-- the left side of each
+abbrev pub left : LimitState → Design → Fraction
+left Thrust d = thrust_strain d
+left NetTension d = bending_strain d
+left Combined d = bending_strain d ⊕ thrust_strain d
+left Deflection d = deflection d
+left Buckling d = cubed (thrust_strain d)
+left Flexibility d = flexibility d
+left Buoyancy d = uplift d
 
-abbrev pub rights : Design → List Fraction
-rights d =
-    compression_limit d ∷ tension_allowed d ∷ compression_allowed d ∷ (hundredths 5 ⊗ inside_diameter d) ∷ buckling_cube d ∷ thousandths 95
-    ∷ hold_down d ∷ []
+-- and the right side
+abbrev pub right : LimitState → Design → Fraction
+right Thrust d = compression_limit d
+right NetTension d = tension_allowed d
+right Combined d = compression_allowed d
+right Deflection d = hundredths 5 ⊗ inside_diameter d
+right Buckling d = buckling_cube d
+right Flexibility d = thousandths 95
+right Buoyancy d = hold_down d
 
--- the sides of the k-th, from 1
-abbrev pub left : ℕ → Design → Fraction
-left k d = slice_index_or (lefts d) (k - 1) (whole 0)
-
-abbrev pub right : ℕ → Design → Fraction
-right k d = slice_index_or (rights d) (k - 1) (whole 0)
+-- the number of each
+abbrev pub limit_number : LimitState → ℕ
+limit_number Thrust = 1
+limit_number NetTension = 2
+limit_number Combined = 3
+limit_number Deflection = 4
+limit_number Buckling = 5
+limit_number Flexibility = 6
+limit_number Buoyancy = 7
 
 -- buoyancy is asked where there is water
 abbrev pub buoyant : Design → Bool

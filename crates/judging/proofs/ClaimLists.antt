@@ -4,13 +4,12 @@ use Rattle.std.proofs.lemmas.List.{take_more, take_more_set, drop_more, take_all
 use Rattle.std.proofs.lemmas.Bool.{cases_eq, cases_Bool, ne_eqb, eq-eqb, leb-true, and_parts, and_from, and_left, and_right, true≢false}
 use Rattle.enclosure.specs.Model.{Model}
 use Rattle.equations.specs.Design.{Design}
-use Rattle.equations.specs.Figures.{figure_millionths}
-use Rattle.judging.specs.Answers.{figure_number, figure_list, numbered_in, figure_numbered}
+use Rattle.equations.specs.Figures.{figure_millionths, figure_number, figure_list, numbered_in, figure_numbered}
 use Rattle.judging.specs.Claim.{claimed, stated_claim}
 use Rattle.judging.specs.Claims.{on_figure, in_range, ClaimMarked, ClaimsMarked}
 use Rattle.judging.specs.Judged.{Marked}
-use Rattle.judging.specs.declared.answer.Figure.{Figure}
-use Rattle.judging.specs.declared.answer.Figure.TheVariants.{PrismPressure, SoilModulus, HoopStiffness, VerticalArching, DesignThrust, ThrustStrain, ServiceStrain, Deflection}
+use Rattle.equations.specs.declared.figure.Figure.{Figure}
+use Rattle.equations.specs.declared.figure.Figure.TheVariants.{PrismPressure, SoilModulus, HoopStiffness, VerticalArching, DesignThrust, ThrustStrain, ServiceStrain, Deflection}
 use Rattle.judging.specs.declared.answer.Mark.{Mark}
 use Rattle.judging.specs.declared.claim.Claimed.{Claimed}
 use Rattle.judging.specs.declared.claims.Claim.{Claim}
@@ -114,15 +113,15 @@ stated_none (Some c) n e h = absurd (true≢false (cc))
 module _ {E : Type 0} (m : Model E) (d : Design) where
   -- a claim that can be marked, with its mark beside it
   pub one_marked : (x y : Claim) (f : Figure) (v : Claimed) (k : Mark) → Some f ≡ figure_numbered x.figure → Some v.value ≡ claimed x.value
-      → y.figure ≡ x.figure → y.value ≡ x.value → y.mark ≡ Some k → Marked m v.value (figure_millionths (figure_number f) d) k → ClaimMarked m d x y
+      → y.figure ≡ x.figure → y.value ≡ x.value → y.mark ≡ Some k → Marked m v.value (figure_millionths f d) k → ClaimMarked m d x y
   one_marked x y f v k hf hv ef ev em p =
       let n = figure_found x.figure f hf in
       let t = claim_tested (in_range x) x.value v hv in
-      let q : Marked m x.value (figure_millionths x.figure d) k = rw (n.0, ← t.1) p in
+      let q : Marked m x.value (figure_millionths f d) k = rw (← t.1) p in
       record {
         figure = ef;
         value = ev;
-        marked = λ h. record { mark = k; written = em; earned = q };
+        marked = λ h. record { figure = f; numbered = sym hf; mark = k; written = em; earned = q };
         left = λ h. absurd (true≢false (sym (and_from (on_figure x) (in_range x) n.1 t.0) ∙ h));
       }
 

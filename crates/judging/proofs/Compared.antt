@@ -11,6 +11,7 @@ use Rattle.enclosure.proofs.Trees.{Tree, as_tree, exact, value, grade, ok, close
 use Rattle.equations.specs.Units.{tenths}
 use Rattle.equations.specs.Design.{Design, centroid_diameter, fill_depth}
 use Rattle.equations.specs.Limits.{left, right, bending_strain, tension_allowed, compression_allowed, buckling_cube, flexibility, uplift, hold_down, buoyant}
+use Rattle.equations.specs.declared.limit_state.LimitState.TheVariants.{Thrust, NetTension, Combined, Deflection, Buckling, Flexibility, Buoyancy}
 use Rattle.equations.proofs.Forms.{all_regroup}
 use Rattle.judging.specs.Answers.{state_number}
 use Rattle.quantities.specs.Formulas.{parts_of, cube_of, square_of}
@@ -45,24 +46,24 @@ module _ {E : Type 0} {m : Model E} where
     compare f g a b le st h = judged (closed s f a) (closed s g b) (leb→le (grade f + grade g) 10000 le) st h
 
     module _ (d : Design) (w : Worked E) (q : WorkedKnown m d w) (st : State) where
-      pub thrust_side : (a : E) → a ≡ parts_of (computed m) d.section.compression_limit 10000 → state_number st ≡ compared m w.thrust_strain a → Judged m (left 1 d) (right 1 d) st
+      pub thrust_side : (a : E) → a ≡ parts_of (computed m) d.section.compression_limit 10000 → state_number st ≡ compared m w.thrust_strain a → Judged m (left Thrust d) (right Thrust d) st
       thrust_side a i h =
           let limit = limit_known s d d.section.compression_limit (omega (arith, d.section.limits)) (omega (arith, d.section.limits)) in
           compare (leaf q.thrust) (leaf limit) tt tt tt st (subst (λ e. state_number st ≡ compared m w.thrust_strain e) i h)
 
-      pub tension_side : (b l a : E) → b ≡ bending_strain_of (computed m) w.bending w.measures.inside w.measures.centroid → l ≡ parts_of (computed m) d.section.tension_limit 10000 → a ≡ tension_allowed_of (computed m) l w.least_strain w.bending w.service_strain → state_number st ≡ compared m b a → Judged m (left 2 d) (right 2 d) st
+      pub tension_side : (b l a : E) → b ≡ bending_strain_of (computed m) w.bending w.measures.inside w.measures.centroid → l ≡ parts_of (computed m) d.section.tension_limit 10000 → a ≡ tension_allowed_of (computed m) l w.least_strain w.bending w.service_strain → state_number st ≡ compared m b a → Judged m (left NetTension d) (right NetTension d) st
       unfolding bending_strain tension_allowed
       tension_side b l a i j u h =
           let limit = limit_known s d d.section.tension_limit (omega (arith, d.section.limits)) (omega (arith, d.section.limits)) in
           compare (bending_strain_of (as_tree m) (leaf q.bending) (leaf q.measures.inside) (leaf q.measures.centroid)) (tension_allowed_of (as_tree m) (leaf limit) (leaf q.least) (leaf q.bending) (leaf q.service)) tt tt tt st (rw (i, u, j) at h)
 
-      pub combined_side : (b c l a : E) → b ≡ bending_strain_of (computed m) w.bending w.measures.inside w.measures.centroid → c ≡ m.sum b w.thrust_strain → l ≡ parts_of (computed m) d.section.compression_limit 10000 → a ≡ compression_allowed_of (computed m) l w.bending w.service_strain → state_number st ≡ compared m c a → Judged m (left 3 d) (right 3 d) st
+      pub combined_side : (b c l a : E) → b ≡ bending_strain_of (computed m) w.bending w.measures.inside w.measures.centroid → c ≡ m.sum b w.thrust_strain → l ≡ parts_of (computed m) d.section.compression_limit 10000 → a ≡ compression_allowed_of (computed m) l w.bending w.service_strain → state_number st ≡ compared m c a → Judged m (left Combined d) (right Combined d) st
       unfolding bending_strain compression_allowed
       combined_side b c l a i v j u h =
           let limit = limit_known s d d.section.compression_limit (omega (arith, d.section.limits)) (omega (arith, d.section.limits)) in
           compare ((as_tree m).add (bending_strain_of (as_tree m) (leaf q.bending) (leaf q.measures.inside) (leaf q.measures.centroid)) (leaf q.thrust)) (compression_allowed_of (as_tree m) (leaf limit) (leaf q.bending) (leaf q.service)) tt tt tt st (rw (v, i, u, j) at h)
 
-      pub deflection_side : (f a : E) → f ≡ parts_of (computed m) 5 100 → a ≡ m.product f w.measures.inside → state_number st ≡ compared m w.deflection a → Judged m (left 4 d) (right 4 d) st
+      pub deflection_side : (f a : E) → f ≡ parts_of (computed m) 5 100 → a ≡ m.product f w.measures.inside → state_number st ≡ compared m w.deflection a → Judged m (left Deflection d) (right Deflection d) st
       deflection_side f a i j h =
           compare (leaf q.deflection) ((as_tree m).mul (parts_of (as_tree m) 5 100) (leaf q.measures.inside)) tt tt tt st (rw (j, i) at h)
 
@@ -70,7 +71,7 @@ module _ {E : Type 0} {m : Model E} where
       depth_known =
           known_along s (all_regroup d).depth (known s ((as_tree m).div (parts_of (as_tree m) 114 10) ((as_tree m).add ((as_tree m).num 11) ((as_tree m).div (leaf q.measures.centroid) (leaf q.measures.fill)))) 20 1 2 2 1 tt)
 
-      pub buckling_side : (c a : E) → c ≡ cube_of (computed m) w.thrust_strain → a ≡ buckling_cube_of (computed m) w.measures.moment w.measures.effective_area w.measures.long_modulus w.modulus w.measures.fill w.measures.centroid → state_number st ≡ compared m c a → Judged m (left 5 d) (right 5 d) st
+      pub buckling_side : (c a : E) → c ≡ cube_of (computed m) w.thrust_strain → a ≡ buckling_cube_of (computed m) w.measures.moment w.measures.effective_area w.measures.long_modulus w.modulus w.measures.fill w.measures.centroid → state_number st ≡ compared m c a → Judged m (left Buckling d) (right Buckling d) st
       unfolding buckling_cube
       buckling_side c a i j h =
           let o = as_tree m in
@@ -78,12 +79,12 @@ module _ {E : Type 0} {m : Model E} where
           let soil = o.mul (o.mul (parts_of o 9 10) (leaf q.modulus)) (o.div (parts_of o 4 10) (parts_of o 49 100)) in
           compare (cube_of o (leaf q.thrust)) (o.mul (o.mul (o.mul (cube_of o (parts_of o 462 1000)) wall) (square_of o soil)) (cube_of o (leaf depth_known))) tt tt tt st (rw (i, j) at h)
 
-      pub flexibility_side : (c a : E) → c ≡ flexibility_of (computed m) w.measures.centroid w.measures.short_modulus w.measures.moment → a ≡ parts_of (computed m) 95 1000 → state_number st ≡ compared m c a → Judged m (left 6 d) (right 6 d) st
+      pub flexibility_side : (c a : E) → c ≡ flexibility_of (computed m) w.measures.centroid w.measures.short_modulus w.measures.moment → a ≡ parts_of (computed m) 95 1000 → state_number st ≡ compared m c a → Judged m (left Flexibility d) (right Flexibility d) st
       unfolding flexibility
       flexibility_side c a i j h =
           compare (flexibility_of (as_tree m) (leaf q.measures.centroid) (leaf q.measures.short) (leaf q.measures.moment)) (parts_of (as_tree m) 95 1000) tt tt tt st (rw (i, j) at h)
 
-      pub buoyancy_side : (c a : E) → c ≡ uplift_of (computed m) w.measures.outside → a ≡ hold_down_of (computed m) w.prism w.measures.outside → state_number st ≡ compared m c a → Judged m (left 7 d) (right 7 d) st
+      pub buoyancy_side : (c a : E) → c ≡ uplift_of (computed m) w.measures.outside → a ≡ hold_down_of (computed m) w.prism w.measures.outside → state_number st ≡ compared m c a → Judged m (left Buoyancy d) (right Buoyancy d) st
       unfolding uplift hold_down
       buoyancy_side c a i j h =
           compare (uplift_of (as_tree m) (leaf q.measures.outside)) (hold_down_of (as_tree m) (leaf q.prism) (leaf q.measures.outside)) tt tt tt st (rw (i, j) at h)

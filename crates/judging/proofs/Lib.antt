@@ -2,4 +2,5 @@ mod Compared
 mod Marks
 mod ReadingOut
 mod Meanings
+mod Found
 pub mod ClaimLists

@@ -1,4 +1,4 @@
--- What marking a claim tells, and the figures by their numbers.
+-- What marking a claim tells, and the figures.
 use Rattle.std.proofs.Common.{◌≡◌, ℕ, ◌*◌, ◌^◌, ◌≤◌, ◌⊎◌, sym, refl, ap, ◌∙◌, subst, inl, inr, arith, lit≤}
 use Rattle.fraction.specs.Fraction.{Fraction, whole, ◌⊘◌}
 use Rattle.enclosure.specs.Model.{Model, Sound}
@@ -10,12 +10,12 @@ use Rattle.enclosure.specs.declared.Comparison.TheVariants.{Yes, No, Unknown}
 use Rattle.enclosure.proofs.Comparisons.{said_yes, said_no, said_unknown}
 use Rattle.enclosure.proofs.Trees.{as_tree, field, closed}
 use Rattle.equations.specs.Design.{Design}
-use Rattle.judging.specs.Answers.{mark_number, figure_number}
+use Rattle.judging.specs.Answers.{mark_number}
 use Rattle.quantities.specs.Formulas.{parts_of}
 use Rattle.judging.specs.Judged.{Marked, mark_of, low_edge, high_edge}
 use Rattle.quantities.specs.Known.{Known}
 use Rattle.judging.specs.Figured.{FigureKnown, MillionthsKnown}
-use Rattle.judging.specs.declared.answer.Figure.{Figure}
+use Rattle.equations.specs.declared.figure.Figure.{Figure}
 use Rattle.judging.specs.declared.answer.Mark.{Mark}
 use Rattle.quantities.proofs.Known.{leaf, known}
 use Rattle.judging.proofs.Compared.{enclosure_of}
@@ -74,8 +74,8 @@ module _ {E : Type 0} {m : Model E} (s : Sound m) where
       }
 
   -- a figure by another name of it
-  pub figure_at : (d : Design) {f g : Figure} {e : E} → f ≡ g → FigureKnown m d (figure_number g) e → FigureKnown m d (figure_number f) e
-  figure_at d {f} {g} {e} h i = subst (λ j. FigureKnown m d (figure_number j) e) (sym h) i
+  pub figure_at : (d : Design) {f g : Figure} {e : E} → f ≡ g → FigureKnown m d g e → FigureKnown m d f e
+  figure_at d {f} {g} {e} h i = subst (λ j. FigureKnown m d j e) (sym h) i
 
-  pub millionths_known : (d : Design) (k : ℕ) {e : E} (t r : E) → FigureKnown m d k e → t ≡ m.from_whole 1000000 → r ≡ m.product e t → MillionthsKnown m d k r
-  millionths_known d k t r p i j = rw (j, i) (known s ((as_tree m).mul (leaf p) ((as_tree m).num 1000000)) 302 1 (10 ^ 4) (10 ^ 15) 1 tt)
+  pub millionths_known : (d : Design) (f : Figure) {e : E} (t r : E) → FigureKnown m d f e → t ≡ m.from_whole 1000000 → r ≡ m.product e t → MillionthsKnown m d f r
+  millionths_known d f t r p i j = rw (j, i) (known s ((as_tree m).mul (leaf p) ((as_tree m).num 1000000)) 302 1 (10 ^ 4) (10 ^ 15) 1 tt)

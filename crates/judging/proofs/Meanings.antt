@@ -6,10 +6,10 @@ use Rattle.enclosure.specs.Model.{Model}
 use Rattle.enclosure.specs.Answer.{compared, ends_by, ends_below}
 use Rattle.equations.specs.Design.{Design}
 use Rattle.equations.specs.Limits.{left, right, buoyant}
-use Rattle.judging.specs.Answers.{limit_number, failing, unsettled, first_failing, any_unsettled, decided, limit_states, states}
+use Rattle.judging.specs.Answers.{failing, unsettled, first_failing, any_unsettled, decided, limit_states, states}
 use Rattle.judging.specs.Judged.{Judged, Asked, SheetJudged, Met, Means}
-use Rattle.judging.specs.declared.answer.LimitState.{LimitState}
-use Rattle.judging.specs.declared.answer.LimitState.TheVariants.{Thrust, NetTension, Combined, Deflection, Buckling, Flexibility, Buoyancy}
+use Rattle.equations.specs.declared.limit_state.LimitState.{LimitState}
+use Rattle.equations.specs.declared.limit_state.LimitState.TheVariants.{Thrust, NetTension, Combined, Deflection, Buckling, Flexibility, Buoyancy}
 use Rattle.judging.specs.declared.answer.State.{State}
 use Rattle.judging.specs.declared.answer.State.TheVariants.{Holds, Fails, Undecided, NotApplied}
 use Rattle.judging.specs.declared.answer.Verdict.TheVariants.{Accepted, Rejected, Undecided as NoVerdict}
@@ -94,7 +94,7 @@ asked_there false J s e j = let z : ◌≡◌ {A = ℕ} 0 1 = cc in absurd (omeg
 
 module _ {E : Type 0} (m : Model E) (d : Design) (s : Sheet) (j : SheetJudged m d s) where
   abbrev J7 : Type 0
-  J7 = Judged m (left 7 d) (right 7 d) s.buoyancy
+  J7 = Judged m (left Buoyancy d) (right Buoyancy d) s.buoyancy
 
   when_accepted : s.verdict ≡ Accepted → Met d
   when_accepted h =
@@ -124,7 +124,7 @@ module _ {E : Type 0} (m : Model E) (d : Design) (s : Sheet) (j : SheetJudged m 
       }
 
   abbrev Broken : LimitState → Type 0
-  Broken l = right (limit_number l) d ≺ left (limit_number l) d
+  Broken l = right l d ≺ left l d
 
   when_rejected : (l : LimitState) → s.verdict ≡ Rejected l → Broken l
   when_rejected l h =
@@ -138,7 +138,7 @@ module _ {E : Type 0} (m : Model E) (d : Design) (s : Sheet) (j : SheetJudged m 
       (found Broken (failing s.buoyancy) Buoyancy l None (λ f. broken m s.buoyancy f (asked_failing (buoyant d) J7 s.buoyancy f j.buoyancy))
       (λ n. let z : ◌≡◌ {A = ℕ} 0 1 = cc in absurd (omega arith)))))))) t
 
-  when_undecided : s.verdict ≡ NoVerdict → (l : LimitState) × Band m.fineness 10000 (left (limit_number l) d) (right (limit_number l) d)
+  when_undecided : s.verdict ≡ NoVerdict → (l : LimitState) × Band m.fineness 10000 (left l d) (right l d)
   when_undecided h =
       let t = one_open (first_failing limit_states (states s)) (any_unsettled (states s)) (sym j.verdict ∙ h) in
       either (unsettled s.thrust) _ (λ f. (Thrust, near m s.thrust f j.thrust))

@@ -1,9 +1,8 @@
 -- The numbers of the answers, and the values that they carry.
-use Rattle.std.specs.Prelude.{ℕ, Bool, true, false, cond, ◌||◌, List, [], ◌∷◌, Some, None, Option, ◌==◌}
-use Rattle.judging.specs.declared.answer.Figure.{Figure}
-use Rattle.judging.specs.declared.answer.Figure.TheVariants.{PrismPressure, SoilModulus, HoopStiffness, VerticalArching, DesignThrust, ThrustStrain, ServiceStrain, Deflection as DeflectionFigure}
-use Rattle.judging.specs.declared.answer.LimitState.{LimitState}
-use Rattle.judging.specs.declared.answer.LimitState.TheVariants.{Thrust, NetTension, Combined, Deflection, Buckling, Flexibility, Buoyancy}
+use Rattle.std.specs.Prelude.{ℕ, Bool, true, false, cond, ◌||◌, List, [], ◌∷◌, Some, None, Option}
+use Rattle.equations.specs.Limits.{limit_number}
+use Rattle.equations.specs.declared.limit_state.LimitState.{LimitState}
+use Rattle.equations.specs.declared.limit_state.LimitState.TheVariants.{Thrust, NetTension, Combined, Deflection, Buckling, Flexibility, Buoyancy}
 use Rattle.judging.specs.declared.answer.Mark.{Mark}
 use Rattle.judging.specs.declared.answer.Mark.TheVariants.{Right, Wrong, Unmarked}
 use Rattle.judging.specs.declared.answer.State.{State}
@@ -18,15 +17,6 @@ state_number Fails = 2
 state_number Undecided = 3
 state_number NotApplied = 4
 
-abbrev pub limit_number : LimitState → ℕ
-limit_number Thrust = 1
-limit_number NetTension = 2
-limit_number Combined = 3
-limit_number Deflection = 4
-limit_number Buckling = 5
-limit_number Flexibility = 6
-limit_number Buoyancy = 7
-
 -- the verdict's number, and the number of the limit state that it names, 0 where it names none
 abbrev pub verdict_number : Verdict → ℕ × ℕ
 verdict_number Accepted = (1, 0)
@@ -37,16 +27,6 @@ abbrev pub mark_number : Mark → ℕ
 mark_number Right = 1
 mark_number Wrong = 2
 mark_number Unmarked = 3
-
-abbrev pub figure_number : Figure → ℕ
-figure_number PrismPressure = 1
-figure_number SoilModulus = 2
-figure_number HoopStiffness = 3
-figure_number VerticalArching = 4
-figure_number DesignThrust = 5
-figure_number ThrustStrain = 6
-figure_number ServiceStrain = 7
-figure_number DeflectionFigure = 8
 
 -- the states of a sheet, in the order of the limit states
 abbrev pub limit_states : List LimitState
@@ -83,15 +63,3 @@ decided None b = cond b NoVerdict Accepted
 -- rejected naming the first that fails, else undecided if one is, else accepted
 abbrev pub verdict_of : List State → Verdict
 verdict_of ss = decided (first_failing limit_states ss) (any_unsettled ss)
-
--- the figure of a number
-abbrev pub figure_list : List Figure
-figure_list =
-    PrismPressure ∷ SoilModulus ∷ HoopStiffness ∷ VerticalArching ∷ DesignThrust ∷ ThrustStrain ∷ ServiceStrain ∷ DeflectionFigure ∷ []
-
-abbrev pub numbered_in : ℕ → List Figure → Option Figure
-numbered_in n [] = None
-numbered_in n (f ∷ fs) = cond (n == figure_number f) (Some f) (numbered_in n fs)
-
-abbrev pub figure_numbered : ℕ → Option Figure
-figure_numbered n = numbered_in n figure_list

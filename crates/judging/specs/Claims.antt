@@ -2,7 +2,8 @@
 use Rattle.std.specs.Prelude.{◌≡◌, ℕ, ◌^◌, Bool, true, false, ◌&&◌, List, [], ◌∷◌, Some, Option, nat_le}
 use Rattle.enclosure.specs.Model.{Model}
 use Rattle.equations.specs.Design.{Design}
-use Rattle.equations.specs.Figures.{figure_millionths}
+use Rattle.equations.specs.Figures.{figure_numbered, figure_millionths}
+use Rattle.equations.specs.declared.figure.Figure.{Figure}
 use Rattle.judging.specs.Judged.{Marked}
 use Rattle.judging.specs.declared.answer.Mark.{Mark}
 use Rattle.judging.specs.declared.claims.Claim.{Claim}
@@ -15,8 +16,10 @@ on_figure c = nat_le 1 c.figure && nat_le c.figure 8
 abbrev pub in_range : Claim → Bool
 in_range c = nat_le 1 c.value && nat_le c.value (10 ^ 13)
 
--- the mark that a claim of this value on a figure earns, and that stands beside it
-pub record Earned {E : Type 0} (m : Model E) (d : Design) (figure value : ℕ) (beside : Option Mark) : Type 0 where
+-- the mark that a claim of this value on the figure of this number earns, and that stands beside it
+pub record Earned {E : Type 0} (m : Model E) (d : Design) (number value : ℕ) (beside : Option Mark) : Type 0 where
+  pub figure : Figure
+  pub numbered : figure_numbered number ≡ Some figure
   pub mark : Mark
   pub written : beside ≡ Some mark
   pub earned : Marked m value (figure_millionths figure d) mark

@@ -8,8 +8,9 @@ use Rattle.enclosure.specs.Formula.{Made}
 use Rattle.equations.specs.Units.{hundredths}
 use Rattle.equations.specs.Design.{Design}
 use Rattle.equations.specs.Limits.{left, right, buoyant}
-use Rattle.judging.specs.Answers.{state_number, limit_number, mark_number, states, verdict_of}
-use Rattle.judging.specs.declared.answer.LimitState.{LimitState}
+use Rattle.equations.specs.declared.limit_state.LimitState.{LimitState}
+use Rattle.equations.specs.declared.limit_state.LimitState.TheVariants.{Thrust, NetTension, Combined, Deflection, Buckling, Flexibility, Buoyancy}
+use Rattle.judging.specs.Answers.{state_number, mark_number, states, verdict_of}
 use Rattle.judging.specs.declared.answer.Mark.{Mark}
 use Rattle.judging.specs.declared.answer.Mark.TheVariants.{Right, Wrong, Unmarked}
 use Rattle.judging.specs.declared.answer.State.{State}
@@ -40,31 +41,31 @@ Asked true judged s = judged
 Asked false judged s = s ≡ NotApplied
 
 pub record SheetJudged {E : Type 0} (m : Model E) (d : Design) (s : Sheet) : Type 0 where
-  pub thrust : Judged m (left 1 d) (right 1 d) s.thrust
-  pub net_tension : Judged m (left 2 d) (right 2 d) s.net_tension
-  pub combined : Judged m (left 3 d) (right 3 d) s.combined
-  pub deflection : Judged m (left 4 d) (right 4 d) s.deflection
-  pub buckling : Judged m (left 5 d) (right 5 d) s.buckling
-  pub flexibility : Judged m (left 6 d) (right 6 d) s.flexibility
-  pub buoyancy : Asked (buoyant d) (Judged m (left 7 d) (right 7 d) s.buoyancy) s.buoyancy
+  pub thrust : Judged m (left Thrust d) (right Thrust d) s.thrust
+  pub net_tension : Judged m (left NetTension d) (right NetTension d) s.net_tension
+  pub combined : Judged m (left Combined d) (right Combined d) s.combined
+  pub deflection : Judged m (left Deflection d) (right Deflection d) s.deflection
+  pub buckling : Judged m (left Buckling d) (right Buckling d) s.buckling
+  pub flexibility : Judged m (left Flexibility d) (right Flexibility d) s.flexibility
+  pub buoyancy : Asked (buoyant d) (Judged m (left Buoyancy d) (right Buoyancy d) s.buoyancy) s.buoyancy
   pub verdict : s.verdict ≡ verdict_of (states s)
 
 -- accepted: every inequality that applies is met
 pub record Met (d : Design) : Type 0 where
-  pub thrust : left 1 d ≼ right 1 d
-  pub net_tension : left 2 d ≼ right 2 d
-  pub combined : left 3 d ≼ right 3 d
-  pub deflection : left 4 d ≼ right 4 d
-  pub buckling : left 5 d ≼ right 5 d
-  pub flexibility : left 6 d ≼ right 6 d
-  pub buoyancy : buoyant d ≡ true → left 7 d ≼ right 7 d
+  pub thrust : left Thrust d ≼ right Thrust d
+  pub net_tension : left NetTension d ≼ right NetTension d
+  pub combined : left Combined d ≼ right Combined d
+  pub deflection : left Deflection d ≼ right Deflection d
+  pub buckling : left Buckling d ≼ right Buckling d
+  pub flexibility : left Flexibility d ≼ right Flexibility d
+  pub buoyancy : buoyant d ≡ true → left Buoyancy d ≼ right Buoyancy d
 
 -- what a verdict means: accepted, every inequality is met; rejected, the one that it names is broken; undecided, the
 -- sides of one are within 10000 / w of the larger
 pub record Means (w : ℕ) (d : Design) (v : Verdict) : Type 0 where
   pub accepted : v ≡ Accepted → Met d
-  pub rejected : (l : LimitState) → v ≡ Rejected l → right (limit_number l) d ≺ left (limit_number l) d
-  pub undecided : v ≡ NoVerdict → (l : LimitState) × Band w 10000 (left (limit_number l) d) (right (limit_number l) d)
+  pub rejected : (l : LimitState) → v ≡ Rejected l → right l d ≺ left l d
+  pub undecided : v ≡ NoVerdict → (l : LimitState) × Band w 10000 (left l d) (right l d)
 
 -- the edges of a claim of c millionths: 99 c / 100 and 101 c / 100
 abbrev pub low_edge : ℕ → Fraction

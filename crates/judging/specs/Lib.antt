@@ -4,3 +4,4 @@ pub mod Judged
 pub mod Claim
 pub mod Claims
 pub mod Figured
+pub mod WorkedCase

@@ -1,23 +1,52 @@
+ghost use Rattle.std.specs.Prelude.{◌≡◌};
+ghost use Rattle.enclosure.specs.Answer.{number};
+ghost use Rattle.judging.specs.Answers.{state_number, mark_number, failing, unsettled};
+
+use enclosure::Comparison;
+use equations::LimitState;
+
 /// How a limit state stands.
 #[derive(Clone, Copy, PartialEq, Eq, Debug)]
 pub enum State {
-    Holds,
-    Fails,
-    Undecided,
+    Holds = 1,
+    Fails = 2,
+    Undecided = 3,
     /// It asks nothing of this case.
-    NotApplied,
+    NotApplied = 4,
 }
 
-/// The seven limit states, in the order in which they are judged.
-#[derive(Clone, Copy, PartialEq, Eq, Debug)]
-pub enum LimitState {
-    Thrust,
-    NetTension,
-    Combined,
-    Deflection,
-    Buckling,
-    Flexibility,
-    Buoyancy,
+impl State {
+    /// The number of the state.
+    pub fn number(self) -> u8
+        ensures { result ≡ state_number self }
+    {
+        self as u8
+    }
+
+    pub(crate) fn fails(self) -> bool
+        ensures { result ≡ failing self }
+    {
+        self == State::Fails
+    }
+
+    pub(crate) fn is_unsettled(self) -> bool
+        ensures { result ≡ unsettled self }
+    {
+        self == State::Undecided
+    }
+}
+
+/// Whether the left side of a limit state is at most the right one.
+impl From<Comparison> for State {
+    ghost from_gives = { λ comparison state. state_number state ≡ number comparison };
+
+    fn from(comparison: Comparison) -> Self {
+        match comparison {
+            Comparison::Yes => State::Holds,
+            Comparison::No => State::Fails,
+            Comparison::Unknown => State::Undecided,
+        }
+    }
 }
 
 /// What becomes of a case.
@@ -32,20 +61,16 @@ pub enum Verdict {
 /// What a claim earns.
 #[derive(Clone, Copy, PartialEq, Eq, Debug)]
 pub enum Mark {
-    Right,
-    Wrong,
-    Unmarked,
+    Right = 1,
+    Wrong = 2,
+    Unmarked = 3,
 }
 
-/// The figures that a claim or a reading may ask for.
-#[derive(Clone, Copy, PartialEq, Eq, Debug)]
-pub enum Figure {
-    PrismPressure,
-    SoilModulus,
-    HoopStiffness,
-    VerticalArching,
-    DesignThrust,
-    ThrustStrain,
-    ServiceStrain,
-    Deflection,
+impl Mark {
+    /// The number of the mark.
+    pub fn number(self) -> u8
+        ensures { result ≡ mark_number self }
+    {
+        self as u8
+    }
 }

@@ -9,10 +9,12 @@ mod marking;
 mod sheet;
 mod sides;
 mod verdicts;
+mod worked_case;
 
-pub use answer::{Figure, LimitState, Mark, State, Verdict};
+pub use answer::{Mark, State, Verdict};
 pub use claim::Claimed;
 pub use claims::Claim;
+pub use equations::{Figure, LimitState, UnknownFigure};
 pub use limits::judge;
 pub use marking::{figure, mark, mark_all};
 pub use sheet::Sheet;

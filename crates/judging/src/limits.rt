@@ -1,7 +1,10 @@
+ghost use Rattle.std.specs.Prelude.{◌≡◌};
+ghost use Rattle.enclosure.specs.Answer.{compared};
 ghost use Rattle.equations.specs.Limits.{left, right, buoyant};
 ghost use Rattle.quantities.specs.Case.{design_of};
+ghost use Rattle.judging.specs.Answers.{state_number};
+ghost use Rattle.judging.specs.WorkedCase.{design, IsWorkedOut};
 ghost use Rattle.judging.specs.Judged.{Judged, Asked, SheetJudged, Means};
-ghost use Rattle.quantities.specs.Worked.{WorkedKnown};
 
 use crate::answer::State;
 use crate::sheet::Sheet;
@@ -9,100 +12,87 @@ use crate::sides::{
     bending_strain, buckling_cube, compression_allowed, flexibility, hold_down, tension_allowed,
     uplift,
 };
-use crate::verdicts::{state, verdict};
+use crate::verdicts::verdict;
+use crate::worked_case::WorkedCase;
 use enclosure::Arithmetic;
-use quantities::{Case, Worked, cube, parts};
+use equations::LimitState;
+use quantities::{Case, cube, parts};
 
-fn thrust<A: Arithmetic>(case: &Case, worked: &Worked<A>) -> State
-    requires { WorkedKnown A.model (design_of case.now) worked.now }
-    ensures { Judged A.model (left 1 (design_of case.now)) (right 1 (design_of case.now)) result }
+/// Whether the left side is at most the right one.
+fn state<A: Arithmetic>(left: A, right: A) -> State
+    ensures { state_number result ≡ compared A.model left right }
 {
-    let allowed = parts(case.section.compression_limit, 10_000);
-    state(worked.thrust_strain, allowed)
+    left.at_most(right).into()
 }
 
-fn net_tension<A: Arithmetic>(case: &Case, worked: &Worked<A>) -> State
-    requires { WorkedKnown A.model (design_of case.now) worked.now }
-    ensures { Judged A.model (left 2 (design_of case.now)) (right 2 (design_of case.now)) result }
-{
-    let bent = bending_strain(
-        worked.bending,
-        worked.measures.inside,
-        worked.measures.centroid,
-    );
-    let limit = parts(case.section.tension_limit, 10_000);
-    let allowed = tension_allowed(
-        limit,
-        worked.least_strain,
-        worked.bending,
-        worked.service_strain,
-    );
-    state(bent, allowed)
-}
-
-fn combined<A: Arithmetic>(case: &Case, worked: &Worked<A>) -> State
-    requires { WorkedKnown A.model (design_of case.now) worked.now }
-    ensures { Judged A.model (left 3 (design_of case.now)) (right 3 (design_of case.now)) result }
-{
-    let bent = bending_strain(
-        worked.bending,
-        worked.measures.inside,
-        worked.measures.centroid,
-    );
-    let pressed = bent.add(worked.thrust_strain);
-    let limit = parts(case.section.compression_limit, 10_000);
-    let allowed = compression_allowed(limit, worked.bending, worked.service_strain);
-    state(pressed, allowed)
-}
-
-fn deflection<A: Arithmetic>(case: &Case, worked: &Worked<A>) -> State
-    requires { WorkedKnown A.model (design_of case.now) worked.now }
-    ensures { Judged A.model (left 4 (design_of case.now)) (right 4 (design_of case.now)) result }
-{
-    let share = parts::<A>(5, 100);
-    let allowed = share.mul(worked.measures.inside);
-    state(worked.deflection, allowed)
-}
-
-fn buckling<A: Arithmetic>(case: &Case, worked: &Worked<A>) -> State
-    requires { WorkedKnown A.model (design_of case.now) worked.now }
-    ensures { Judged A.model (left 5 (design_of case.now)) (right 5 (design_of case.now)) result }
-{
-    let strain = cube(worked.thrust_strain);
-    let allowed = buckling_cube(
-        worked.measures.moment,
-        worked.measures.effective_area,
-        worked.measures.long_modulus,
-        worked.modulus,
-        worked.measures.fill,
-        worked.measures.centroid,
-    );
-    state(strain, allowed)
-}
-
-fn flexible<A: Arithmetic>(case: &Case, worked: &Worked<A>) -> State
-    requires { WorkedKnown A.model (design_of case.now) worked.now }
-    ensures { Judged A.model (left 6 (design_of case.now)) (right 6 (design_of case.now)) result }
-{
-    let give = flexibility(
-        worked.measures.centroid,
-        worked.measures.short_modulus,
-        worked.measures.moment,
-    );
-    let allowed = parts(95, 1_000);
-    state(give, allowed)
-}
-
-fn buoyancy<A: Arithmetic>(case: &Case, worked: &Worked<A>) -> State
-    requires { WorkedKnown A.model (design_of case.now) worked.now }
-    ensures { Asked (buoyant (design_of case.now)) (Judged A.model (left 7 (design_of case.now)) (right 7 (design_of case.now)) result) result }
-{
-    if case.site.water == 0 {
-        return State::NotApplied;
+impl<'a, A: Arithmetic> WorkedCase<'a, A> {
+    fn thrust(&self) -> State
+        requires { IsWorkedOut A.model self.now }
+        ensures { Judged A.model (left LimitState.Thrust (design self.now)) (right LimitState.Thrust (design self.now)) result }
+    {
+        let allowed = parts(self.given.section.compression_limit, 10_000);
+        state(self.worked.thrust_strain, allowed)
     }
-    let lift = uplift(worked.measures.outside);
-    let held = hold_down(worked.prism, worked.measures.outside);
-    state(lift, held)
+
+    fn net_tension(&self) -> State
+        requires { IsWorkedOut A.model self.now }
+        ensures { Judged A.model (left LimitState.NetTension (design self.now)) (right LimitState.NetTension (design self.now)) result }
+    {
+        let bent = bending_strain(&self.worked);
+        let limit = parts(self.given.section.tension_limit, 10_000);
+        let allowed = tension_allowed(limit, &self.worked);
+        state(bent, allowed)
+    }
+
+    fn combined(&self) -> State
+        requires { IsWorkedOut A.model self.now }
+        ensures { Judged A.model (left LimitState.Combined (design self.now)) (right LimitState.Combined (design self.now)) result }
+    {
+        let bent = bending_strain(&self.worked);
+        let pressed = bent.add(self.worked.thrust_strain);
+        let limit = parts(self.given.section.compression_limit, 10_000);
+        let allowed = compression_allowed(limit, &self.worked);
+        state(pressed, allowed)
+    }
+
+    fn deflection(&self) -> State
+        requires { IsWorkedOut A.model self.now }
+        ensures { Judged A.model (left LimitState.Deflection (design self.now)) (right LimitState.Deflection (design self.now)) result }
+    {
+        let share = parts::<A>(5, 100);
+        let allowed = share.mul(self.worked.measures.inside);
+        state(self.worked.deflection, allowed)
+    }
+
+    fn buckling(&self) -> State
+        requires { IsWorkedOut A.model self.now }
+        ensures { Judged A.model (left LimitState.Buckling (design self.now)) (right LimitState.Buckling (design self.now)) result }
+    {
+        let strain = cube(self.worked.thrust_strain);
+        let allowed = buckling_cube(&self.worked);
+        state(strain, allowed)
+    }
+
+    fn flexible(&self) -> State
+        requires { IsWorkedOut A.model self.now }
+        ensures { Judged A.model (left LimitState.Flexibility (design self.now)) (right LimitState.Flexibility (design self.now)) result }
+    {
+        let give = flexibility(&self.worked.measures);
+        let allowed = parts(95, 1_000);
+        state(give, allowed)
+    }
+
+    fn buoyancy(&self) -> State
+        requires { IsWorkedOut A.model self.now }
+        ensures { Asked (buoyant (design self.now)) (Judged A.model (left LimitState.Buoyancy (design self.now)) (right LimitState.Buoyancy (design self.now)) result) result }
+    {
+        if self.given.site.water == 0 {
+            return State::NotApplied;
+        }
+        let lift = uplift(&self.worked.measures);
+        let held = hold_down(&self.worked);
+        state(lift, held)
+    }
 }
 
 /// The states of the seven limit states, and the verdict.
@@ -110,23 +100,23 @@ pub fn judge<A: Arithmetic>(case: &Case) -> Sheet
     ensures states { SheetJudged A.model (design_of case.now) result }
     ensures verdict { Means A.model.fineness (design_of case.now) result.verdict }
 {
-    let worked = Worked::<A>::of(case);
-    let thrust = thrust(case, &worked);
-    let net_tension = net_tension(case, &worked);
-    let combined = combined(case, &worked);
-    let deflection = deflection(case, &worked);
-    let buckling = buckling(case, &worked);
-    let flexibility = flexible(case, &worked);
-    let buoyancy = buoyancy(case, &worked);
-    let verdict = verdict(
-        thrust,
-        net_tension,
-        combined,
-        deflection,
-        buckling,
-        flexibility,
-        buoyancy,
-    );
+    let worked = WorkedCase::<A>::of(case);
+    let thrust = worked.thrust();
+    let net_tension = worked.net_tension();
+    let combined = worked.combined();
+    let deflection = worked.deflection();
+    let buckling = worked.buckling();
+    let flexibility = worked.flexible();
+    let buoyancy = worked.buoyancy();
+    let verdict = verdict(&[
+        (LimitState::Thrust, thrust),
+        (LimitState::NetTension, net_tension),
+        (LimitState::Combined, combined),
+        (LimitState::Deflection, deflection),
+        (LimitState::Buckling, buckling),
+        (LimitState::Flexibility, flexibility),
+        (LimitState::Buoyancy, buoyancy),
+    ]);
     Sheet {
         thrust,
         net_tension,

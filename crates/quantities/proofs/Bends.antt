@@ -1,5 +1,5 @@
 -- What is known of the bending factor.
-use Rattle.std.proofs.Common.{◌≡◌, ℕ, ◌*◌, ◌^◌, ◌<◌, ◌≤◌, map, mul-le-mul, mul-pos, arith, lit<, eq-eqb, ne_eqb}
+use Rattle.std.proofs.Common.{◌≡◌, ◌*◌, ◌^◌, ◌<◌, ◌≤◌, map, arith, lit<, eq-eqb, ne_eqb}
 use Rattle.fraction.specs.Fraction.{Fraction, whole, Same}
 use Rattle.fraction.specs.Ratio.{value}
 use Rattle.fraction.specs.declared.ratio.Ratio.{Ratio}
@@ -22,12 +22,6 @@ use Rattle.quantities.specs.declared.measures.Measures.{Measures}
 use Rattle.quantities.proofs.Known.{known, known_at, known_along}
 use Rattle.quantities.proofs.Quantities.{bending_known}
 use Rattle.quantities.proofs.Supports.{pair_same, at_least_pair, at_most_pair}
-
-pub cube_fits : (c : ℕ) → c ≤ 120000 → 149 * (c * c * c) ≤ 257472000000000000
-cube_fits c h = omega (arith, mul-le-mul (mul-le-mul h h) h)
-
-pub cube_positive : (c : ℕ) → 0 < c → 0 < 149 * (c * c * c)
-cube_positive c h = omega (arith, mul-pos (mul-pos h h) h)
 
 module _ (d : Design) where
   pub given_same : (pos : 0 < 100 * 1) → (d.section.stiffness ≡ 0 → ⊥) → Same (record { num = d.section.stiffness; den = 100 * 1; pos = pos }) (pipe_stiffness d)

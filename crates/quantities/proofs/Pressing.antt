@@ -11,7 +11,7 @@ use Rattle.equations.specs.Units.{tenths}
 use Rattle.equations.specs.Design.{Design, inside_diameter, outside_diameter, fill_depth, water_depth, water_factor}
 use Rattle.equations.specs.Pressures.{water_pressure}
 use Rattle.equations.specs.LiveLoad.{live_length, live_width, live_pressure, wheel_width, wheels_pair, wheel_load, truck_pressure, impact}
-use Rattle.equations.specs.Regrouped.{Drained, dry_units, wet_units, prism_units, wheel_units, impact_units}
+use Rattle.equations.specs.Regrouped.{Drained, wet_units, prism_units, wheel_units, impact_units}
 use Rattle.equations.proofs.Prism.{prism_same}
 use Rattle.equations.proofs.Forms.{all_regroup}
 use Rattle.quantities.specs.Known.{Known}
@@ -20,13 +20,7 @@ use Rattle.quantities.specs.Formulas.{parts_of, water_pressure_of, live_length_o
 use Rattle.quantities.proofs.Known.{leaf, known, known_along, known_is}
 use Rattle.quantities.proofs.Quantities.{times_zero, zero_over}
 
--- the range of the prism's units
-pub dry_least : (h o g : ℕ) → 12001 ≤ h → 500 ≤ g → 400000000 ≤ dry_units h o g
-dry_least h o g a b = omega (arith, mul-le-mul a b)
-
-pub dry_most : (h o g : ℕ) → h ≤ 1200000 → o ≤ 120000 → g ≤ 2000 → dry_units h o g ≤ 1300000000000
-dry_most h o g a b c = omega (arith, mul-le-mul a c, mul-le-mul b c)
-
+-- the prism's units are not few
 least_parts : (e t g v : ℕ) → 24002 ≤ e + t → 176 ≤ g → 176 ≤ v → 400000000 ≤ 100 * e * g + 100 * t * v
 least_parts e t g v h k l =
     let p : e * 176 ≤ e * g = mul-le-mul (le_refl e) k in
@@ -37,18 +31,6 @@ pub wet_least : (h o t g s : ℕ) → 12001 ≤ h → t ≤ 2 * h → 500 ≤ g 
 wet_least h o t g s a b c e =
     let r = least_parts (2 * h - t) t g (s - 624) (omega arith) (omega arith) (omega arith) in
     omega (arith, r)
-
-pub wet_most : (h o t g s : ℕ) → h ≤ 1200000 → o ≤ 120000 → t ≤ 2 * h → g ≤ 2000 → s ≤ 2000 → wet_units h o t g s ≤ 1300000000000
-wet_most h o t g s a b c e f =
-    let p : 2 * h - t ≤ 2400000 - t = omega arith in
-    let q : s - 624 ≤ 2000 = omega arith in
-    omega (arith, mul-le-mul p e, mul-le-mul c q, mul-le-mul b q)
-
-pub dry_is : (d : Design) → 2 * d.site.water ≤ d.section.outside → dry_units d.site.fill d.section.outside d.site.moist_weight ≡ prism_units d
-dry_is d le = rw (le-leb (2 * d.site.water) d.section.outside le)
-
-pub wet_is : (d : Design) → d.section.outside < 2 * d.site.water → wet_units d.site.fill d.section.outside (2 * d.site.water - d.section.outside) d.site.moist_weight d.site.saturated_weight ≡ prism_units d
-wet_is d lt = rw (lt-leb (2 * d.site.water) d.section.outside lt)
 
 smaller_zero : (x y : Fraction) → x.num ≡ 0 → (x ⊓ y).num ≡ 0
 unfolding ◌⊓◌

@@ -1,5 +1,5 @@
 -- What is known of the records' fields.
-use Rattle.std.proofs.Common.{ℕ, ◌≤◌, arith}
+use Rattle.std.proofs.Common.{◌≡◌, ℕ, ◌≤◌, arith}
 use Rattle.enclosure.specs.Model.{Model, Sound}
 use Rattle.enclosure.specs.Formula.{computed}
 use Rattle.enclosure.proofs.Trees.{as_tree, field}
@@ -7,8 +7,10 @@ use Rattle.equations.specs.Units.{thousandths, ten_thousandths}
 use Rattle.equations.specs.Design.{Design, installation_factor}
 use Rattle.fraction.specs.Fraction.{whole}
 use Rattle.quantities.specs.Known.{Known}
+use Rattle.quantities.specs.Measured.{Measured, measures_of}
 use Rattle.quantities.specs.Formulas.{parts_of}
 use Rattle.quantities.specs.Quantities.{Diameter, Area, Modulus, Limit, Moment, Fill}
+use Rattle.quantities.specs.declared.measures.Measures.{Measures}
 use Rattle.quantities.proofs.Known.{known}
 
 module _ {E : Type 0} {m : Model E} (s : Sound m) (d : Design) where
@@ -33,3 +35,20 @@ module _ {E : Type 0} {m : Model E} (s : Sound m) (d : Design) where
   pub installation_known : Known m 3 115 100 150 100 (installation_factor d) (parts_of (computed m) d.site.installation_factor 100)
   installation_known =
       known s ((as_tree m).div (field 115 150 d.site.installation_factor (omega (arith, d.site.installations.0)) (omega (arith, d.site.installations.1))) ((as_tree m).num 100)) 3 115 100 150 100 tt
+
+  -- the measures of a design are its fields
+  pub measured : (p : Measures E) → p ≡ measures_of (computed m) d → Measured m d p
+  measured p e =
+      let n = d.section in
+      rw e
+      (record {
+        inside = diameter_known n.inside (omega (arith, n.diameters)) (omega (arith, n.diameters));
+        centroid = diameter_known n.centroid (omega (arith, n.diameters)) (omega (arith, n.diameters));
+        outside = diameter_known n.outside (omega (arith, n.diameters)) (omega (arith, n.diameters));
+        gross = area_known n.gross_area (omega (arith, n.areas)) (omega (arith, n.areas));
+        effective = area_known n.effective_area (omega (arith, n.areas)) (omega (arith, n.areas));
+        moment = moment_known;
+        short = modulus_known n.short_modulus (omega (arith, n.moduli)) (omega (arith, n.moduli));
+        long = modulus_known n.long_modulus (omega (arith, n.moduli)) (omega (arith, n.moduli));
+        fill = fill_known;
+      })

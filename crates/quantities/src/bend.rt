@@ -2,14 +2,12 @@ ghost use Rattle.std.specs.Prelude.{◌≤◌};
 ghost use Rattle.equations.specs.Bending.{pipe_stiffness};
 ghost use Rattle.fraction.specs.Fraction.{Same};
 ghost use Rattle.quantities.specs.Case.{design_of};
-ghost use Rattle.quantities.specs.Measured.{Measured};
 ghost use Rattle.quantities.specs.Quantities.{Bending, LoadFactor};
 ghost use Rattle.lookups.specs.Operand.{stiffness_of};
 
 use crate::case::Case;
-use crate::fields::{long_parts, parts};
-use crate::formulas::bending_factor;
-use crate::measures::Measures;
+use crate::formulas::{bending_factor, long_parts, parts};
+use crate::measured::MeasuredCase;
 use enclosure::Arithmetic;
 use lookups::{Stiffness, shape_factor};
 
@@ -32,17 +30,19 @@ fn stiffness(case: &Case) -> Stiffness
     }
 }
 
-/// The bending factor.
-pub(crate) fn bending<A: Arithmetic>(case: &Case, measures: &Measures<A>, load: A) -> A
-    requires measured { Measured A.model (design_of case.now) measures.now }
-    requires load { LoadFactor A.model (design_of case.now) load }
-    ensures { Bending A.model (design_of case.now) result }
-{
-    let section = case.section;
-    let factor = shape_factor(case.shape, stiffness(case));
-    let shape = long_parts(factor.num, factor.den);
-    let outer = section.outside - section.centroid;
-    let inner = section.centroid - section.inside;
-    let face = parts(outer.max(inner), 1_000);
-    bending_factor(load, shape, face, measures.centroid)
+impl<'a, A: Arithmetic> MeasuredCase<'a, A> {
+    /// The bending factor.
+    pub(crate) fn bending(&self, load: A) -> A
+        requires { LoadFactor A.model (design_of self.now.given.now) load }
+        ensures { Bending A.model (design_of self.now.given.now) result }
+    {
+        let case = self.given;
+        let section = case.section;
+        let factor = shape_factor(case.shape, stiffness(case));
+        let shape = long_parts(factor.num, factor.den);
+        let outer = section.outside - section.centroid;
+        let inner = section.centroid - section.inside;
+        let face = parts(outer.max(inner), 1_000);
+        bending_factor(load, shape, face, self.measures.centroid)
+    }
 }

@@ -1,6 +1,6 @@
 ghost use Rattle.std.specs.Prelude.{◌+◌, ◌*◌, ◌<◌, ◌≤◌};
 
-use records::{EmbedmentCurve, Section, ShapeCurve, Site, SupportGrid};
+use records::{Cause, EmbedmentCurve, Fault, Section, ShapeCurve, Site, SupportGrid};
 
 /// Five records that fit together: the trench is wider than the pipe, and the water not above the ground.
 #[derive(Clone, Copy)]
@@ -12,4 +12,40 @@ pub struct Case<'a> {
     pub site: Site,
     ghost wide: { section.outside < site.trench },
     ghost drained: { 2 * site.water ≤ 2 * site.fill + section.outside },
+}
+
+impl<'a> Case<'a> {
+    ghost use Rattle.std.specs.Prelude.{◌≡◌};
+    ghost use Rattle.quantities.specs.Case.{answer, case_refusal, unless_refused, records_of};
+
+    /// The case of these records, or why they do not fit together.
+    pub fn new(
+        section: Section,
+        embedment: &'a EmbedmentCurve,
+        shape: &'a ShapeCurve,
+        grid: &'a SupportGrid,
+        site: Site,
+    ) -> Result<Self, Fault>
+        ensures { answer result ≡ unless_refused (case_refusal section site) (records_of section embedment.now shape.now grid.now site) }
+    {
+        if site.trench <= section.outside {
+            return Err(Fault {
+                cause: Cause::Trench,
+                field: 0,
+            });
+        }
+        if 2 * site.water > 2 * site.fill + section.outside {
+            return Err(Fault {
+                cause: Cause::Water,
+                field: 0,
+            });
+        }
+        Ok(Case {
+            section,
+            embedment,
+            shape,
+            grid,
+            site,
+        })
+    }
 }

@@ -1,10 +1,24 @@
 // The equations as the arithmetic computes them, each in the order of its definition.
 ghost use Rattle.std.specs.Prelude.{◌≡◌};
 ghost use Rattle.enclosure.specs.Formula.{computed};
-ghost use Rattle.quantities.specs.Formulas.{half_of, square_of, cube_of, plus_of, water_pressure_of, live_length_of, wheel_width_of, truck_pressure_of, hoop_stiffness_of, arching_of, load_factor_of, length_share_of, spread_factor_of, hoop_factor_of, live_thrust_of, factored_thrust_of, thrust_of, live_part_of, bending_factor_of, resistance_of, soil_deflection_of, live_deflection_of};
+ghost use Rattle.quantities.specs.Formulas.{parts_of, long_parts_of, half_of, square_of, cube_of, plus_of, water_pressure_of, live_length_of, wheel_width_of, truck_pressure_of, hoop_stiffness_of, arching_of, load_factor_of, length_share_of, spread_factor_of, hoop_factor_of, live_thrust_of, factored_thrust_of, thrust_of, live_part_of, bending_factor_of, resistance_of, soil_deflection_of, live_deflection_of};
 
-use crate::fields::parts;
-use enclosure::Arithmetic;
+use enclosure::{Arithmetic, wide};
+
+/// `n` over `k`.
+pub fn parts<A: Arithmetic>(n: u64, k: u64) -> A
+    ensures { result ≡ parts_of (computed A.model) n k }
+{
+    A::whole(n).div(A::whole(k))
+}
+
+/// `n` over `k`, of more than 62 bits.
+// Beside `parts`: one function over u64 and u128 would need a trait that each calls by name, and is no plainer.
+pub(crate) fn long_parts<A: Arithmetic>(n: u128, k: u128) -> A
+    ensures { result ≡ long_parts_of (computed A.model) n k }
+{
+    wide::<A>(n).div(wide(k))
+}
 
 fn half<A: Arithmetic>(x: A) -> A
     ensures { result ≡ half_of (computed A.model) x }
@@ -30,10 +44,7 @@ pub fn cube<A: Arithmetic>(x: A) -> A
 pub(crate) fn plus<A: Arithmetic>(x: A, y: Option<A>) -> A
     ensures { result ≡ plus_of (computed A.model) x y }
 {
-    match y {
-        Some(y) => x.add(y),
-        None => x,
-    }
+    y.map_or(x, |y| x.add(y))
 }
 
 pub(crate) fn water_pressure<A: Arithmetic>(factor: A, water: A, fill: A, outside: A) -> A

@@ -3,17 +3,16 @@
 
 mod bend;
 mod case;
-mod cases;
-mod fields;
+mod cover;
 mod formulas;
 mod loads;
+mod measured;
 mod measures;
 mod soils;
 mod work;
 mod worked;
 
 pub use case::Case;
-pub use fields::parts;
-pub use formulas::{cube, square};
+pub use formulas::{cube, parts, square};
 pub use measures::Measures;
 pub use worked::Worked;

@@ -3,13 +3,11 @@ ghost use Rattle.enclosure.specs.Formula.{computed};
 ghost use Rattle.equations.specs.Regrouped.{prism_units};
 ghost use Rattle.quantities.specs.Case.{design_of};
 ghost use Rattle.quantities.specs.Formulas.{parts_of, live_length_of, truck_pressure_of};
-ghost use Rattle.quantities.specs.Measured.{Measured};
 ghost use Rattle.quantities.specs.Quantities.{Water, Live};
 
 use crate::case::Case;
-use crate::fields::parts;
-use crate::formulas::{live_length, truck_pressure, water_pressure, wheel_width};
-use crate::measures::Measures;
+use crate::formulas::{live_length, parts, truck_pressure, water_pressure, wheel_width};
+use crate::measured::MeasuredCase;
 use enclosure::Arithmetic;
 use records::LiveLoad;
 
@@ -29,20 +27,6 @@ pub(crate) fn prism_units(case: &Case) -> u64
     moist + (100 * over + 22 * section.outside) * (site.saturated_weight - 624)
 }
 
-/// The hydrostatic pressure, where there is water.
-pub(crate) fn water<A: Arithmetic>(case: &Case, measures: &Measures<A>) -> Option<A>
-    requires { Measured A.model (design_of case.now) measures.now }
-    ensures { Water A.model (design_of case.now) result }
-{
-    let site = case.site;
-    if site.water == 0 {
-        return None;
-    }
-    let factor = parts(site.water_factor, 100);
-    let depth = parts(site.water, 1_000);
-    Some(water_pressure(factor, depth, measures.fill, measures.outside))
-}
-
 // Under wheels of this load and this width at the crown, up to 96 inches deep.
 fn under_wheels<A: Arithmetic>(fill: u64, load: u64, depth: A, width: A) -> A
     requires { fill ≤ 96000 }
@@ -52,24 +36,39 @@ fn under_wheels<A: Arithmetic>(fill: u64, load: u64, depth: A, width: A) -> A
     truck_pressure(impact, A::whole(load), live_length(depth), width)
 }
 
-/// The live load's pressure, where it counts.
-pub(crate) fn live_pressure<A: Arithmetic>(case: &Case, measures: &Measures<A>) -> Option<A>
-    requires { Measured A.model (design_of case.now) measures.now }
-    ensures { Live A.model (design_of case.now) result }
-{
-    let fill = case.site.fill;
-    let deep = fill > 96_000;
-    let paired = 115 * fill + 6 * case.section.inside >= 5_200_000;
-    match case.site.live_load {
-        LiveLoad::None => None,
-        LiveLoad::Truck if deep => None,
-        LiveLoad::Truck if paired => {
-            let width = wheel_width(measures.fill, measures.inside).add(A::whole(72));
-            Some(under_wheels(fill, 32_000, measures.fill, width))
+impl<'a, A: Arithmetic> MeasuredCase<'a, A> {
+    /// The hydrostatic pressure, where there is water.
+    pub(crate) fn water(&self) -> Option<A>
+        ensures { Water A.model (design_of self.now.given.now) result }
+    {
+        let site = self.given.site;
+        if site.water == 0 {
+            return None;
         }
-        LiveLoad::Truck => {
-            let width = wheel_width(measures.fill, measures.inside);
-            Some(under_wheels(fill, 16_000, measures.fill, width))
+        let factor = parts(site.water_factor, 100);
+        let depth = parts(site.water, 1_000);
+        Some(water_pressure(factor, depth, self.measures.fill, self.measures.outside))
+    }
+
+    /// The live load's pressure, where it counts.
+    pub(crate) fn live_pressure(&self) -> Option<A>
+        ensures { Live A.model (design_of self.now.given.now) result }
+    {
+        let measures = self.measures;
+        let fill = self.given.site.fill;
+        let deep = fill > 96_000;
+        let paired = 115 * fill + 6 * self.given.section.inside >= 5_200_000;
+        match self.given.site.live_load {
+            LiveLoad::None => None,
+            LiveLoad::Truck if deep => None,
+            LiveLoad::Truck if paired => {
+                let width = wheel_width(measures.fill, measures.inside).add(A::whole(72));
+                Some(under_wheels(fill, 32_000, measures.fill, width))
+            }
+            LiveLoad::Truck => {
+                let width = wheel_width(measures.fill, measures.inside);
+                Some(under_wheels(fill, 16_000, measures.fill, width))
+            }
         }
     }
 }

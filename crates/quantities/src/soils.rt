@@ -5,7 +5,7 @@ ghost use Rattle.quantities.specs.Case.{design_of};
 ghost use Rattle.quantities.specs.Quantities.{Soil};
 
 use crate::case::Case;
-use crate::fields::{long_parts, parts};
+use crate::formulas::{long_parts, parts};
 use enclosure::Arithmetic;
 use lookups::{Pressure, embedment_modulus, support_factor};
 

@@ -1,14 +1,14 @@
-use Rattle.std.proofs.Common.{sym, ◌∙◌}
+use Rattle.std.proofs.Common.{sym, refl, ◌∙◌}
 use Rattle.judging.proofs.ReadingOut.{floor_read, ceiling_read, read_out}
 use Rattle.judging.proofs.marking.figure.Goals as goal
 
-pub returns-in_default : goal.returns-in_default
-returns-in_default g c = absurd (c.in_default.not-Some _ (c.floor.ensures ∙ floor_read g.met.A.Arithmetic.sound c.millionths-value.ensures))
+pub unwrap-below-requires : goal.unwrap-below-requires
+unwrap-below-requires g c = rw (c.floor.ensures ∙ floor_read g.met.A.Arithmetic.sound c.millionths-value.ensures) refl
 
-pub returns-in_default-ceiling : goal.returns-in_default-ceiling
-returns-in_default-ceiling g c =
-    absurd (c.in_default-ceiling.not-Some _ (c.ceiling.ensures ∙ ceiling_read g.met.A.Arithmetic.sound c.millionths-value.ensures))
+pub unwrap-above-requires : goal.unwrap-above-requires
+unwrap-above-requires g c = rw (c.ceiling.ensures ∙ ceiling_read g.met.A.Arithmetic.sound c.millionths-value.ensures) refl
 
 pub returns : goal.returns
 returns g c =
-    read_out g.met.A.Arithmetic.sound c.millionths-value.ensures c.in-Some.below c.in-Some-ceiling.above (sym c.in-Some.is ∙ c.floor.ensures) (sym c.in-Some-ceiling.is ∙ c.ceiling.ensures)
+    rw (← c.of.ensures.given)
+    (read_out g.met.A.Arithmetic.sound c.millionths-value.ensures c.unwrap-below.result c.unwrap-above.result (sym c.unwrap-below.ensures ∙ c.floor.ensures) (sym c.unwrap-above.ensures ∙ c.ceiling.ensures))

@@ -1,6 +1,4 @@
-use Rattle.std.proofs.Common.{ℕ, sym, ◌∙◌, subst}
-use Rattle.equations.specs.Figures.{figure_millionths}
-use Rattle.judging.specs.Judged.{ReadOutOf}
+use Rattle.std.proofs.Common.{sym, ◌∙◌}
 use Rattle.judging.proofs.ClaimLists.{figure_found, no_figure}
 use Rattle.quantities.specs.Case.{design_of}
 use Rattle.sitting.specs.Sittings.{held}
@@ -17,7 +15,9 @@ returns g c =
       figure = record {
         design = design_of c.in_ok-case.case;
         stands = h.stands;
-        read = subst (λ (n : ℕ). ReadOutOf g.A.Arithmetic.model.fineness (figure_millionths n (design_of c.in_ok-case.case)) c.figure.result.0 c.figure.result.1) (sym f.0) c.figure.ensures;
+        figure = c.in-Some.asked;
+        numbered = sym c.numbered.ensures ∙ c.in-Some.is;
+        read = c.figure.ensures;
       };
     }
 
