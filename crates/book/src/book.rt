@@ -42,6 +42,7 @@ impl Book {
             (λ _. self.new ≡ self.old) }
         ensures law { OnOk result (Changed (register_of self.old) (register_of self.new) kind place (Some fields.now)) }
     {
+        // A kind is a value and a record a type, and only a match leads from one to the other.
         match kind {
             Kind::Section => shelf::enter(&mut self.sections, place, fields),
             Kind::Embedment => shelf::enter(&mut self.embedments, place, fields),
@@ -76,6 +77,7 @@ impl Book {
         shelf::held_at(T::shelf(self), place)
     }
 
+    // A book derives no Drop, by a rule of the project: so no program loses one by accident.
     /// Lets the book go, with its records.
     pub fn discard(self) {
         let Book {
