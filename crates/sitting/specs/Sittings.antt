@@ -1,5 +1,5 @@
 -- What a sitting answers.
-use Rattle.std.specs.Prelude.{◌≡◌, ℕ, cond, ◌&&◌, List, [], ◌∷◌, length, Some, None, Option, nat_le}
+use Rattle.std.specs.Prelude.{◌≡◌, ℕ, List, [], ◌∷◌, length, Option}
 use Rattle.book.specs.Register.{Register}
 use Rattle.book.specs.Shelves.{register_of}
 use Rattle.calls.specs.declared.answer.Tallies.{Tallies}
@@ -12,10 +12,9 @@ use Rattle.judging.specs.Claims.{Earned}
 use Rattle.judging.specs.Judged.{SheetJudged, Means, ReadOutOf}
 use Rattle.judging.specs.declared.claims.Claim.{Claim}
 use Rattle.judging.specs.declared.sheet.Sheet.{Sheet}
-use Rattle.records.specs.Cause.{Refusal, refusal, first}
-use Rattle.records.specs.declared.fault.Cause.TheVariants.{Figure}
+use Rattle.records.specs.Cause.{Refusal, first}
 use Rattle.sitting.specs.Cases.{Stands, places_refusal, vacancy, misfit, case_refusal}
-use Rattle.sitting.specs.Claims.{count_refusal, claims_refusal, room_refusal}
+use Rattle.sitting.specs.Claims.{count_refusal, figure_refusal, claims_refusal, room_refusal}
 use Rattle.sitting.specs.declared.sitting.Sitting.{Sitting}
 
 -- the records that stand in a sitting
@@ -24,7 +23,7 @@ held s = register_of s.book
 
 -- why a figure is not read: no case, or no such figure
 abbrev pub reading_refusal : Register → Reading → Option Refusal
-reading_refusal g r = first (case_refusal g r.case) (cond (nat_le 1 r.figure && nat_le r.figure 8) None (Some (refusal Figure 6)))
+reading_refusal g r = first (case_refusal g r.case) (figure_refusal 6 r.figure)
 
 -- why claims are not marked: places, the count of claims, the case, claim by claim, the tallies
 abbrev pub marking_refusal : Register → Tallies → CasePlaces → List Claim → Option Refusal
