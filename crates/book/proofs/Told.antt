@@ -1,8 +1,7 @@
 -- A line tells its record.
 use Rattle.std.proofs.Common.{◌≡◌, ℕ, ◌<◌, ◌≤◌, Bool, true, false, List, [], ◌∷◌, ◌++◌, length, take, drop, sym, refl, ap, ◌∙◌}
-use mathlib.Core.Bool.{Bool-set}
 use mathlib.Core.HLevel.{is_prop→PathP}
-use native.Mathlib.Bridge.{le_prop}
+use Rattle.std.proofs.Props.{props}
 use Rattle.std.proofs.lemmas.List.{take_at, drop_at}
 use Rattle.book.specs.Told.{Told}
 use Rattle.records.specs.Curve.{curve_line, flat}
@@ -15,15 +14,6 @@ use Rattle.records.specs.declared.section.Section.{Section}
 use Rattle.records.specs.declared.site.LiveLoad.{LiveLoad}
 use Rattle.records.specs.declared.site.LiveLoad.TheVariants.{None, Truck}
 use Rattle.records.specs.declared.site.Site.{Site}
-
-two : {A B : Type 0} → IsProp A → IsProp B → IsProp (A × B)
-two a b x y = λ i. (a x.0 y.0 i, b x.1 y.1 i)
-
-three : {A B C : Type 0} → IsProp A → IsProp B → IsProp C → IsProp (A × B × C)
-three a b c x y = λ i. (a x.0 y.0 i, b x.1 y.1 i, c x.2 y.2 i)
-
-four : {A B C D : Type 0} → IsProp A → IsProp B → IsProp C → IsProp D → IsProp (A × B × C × D)
-four a b c d x y = λ i. (a x.0 y.0 i, b x.1 y.1 i, c x.2 y.2 i, d x.3 y.3 i)
 
 section_told : (s t : Section) → section_line s ≡ section_line t → s ≡ t
 section_told s t e =
@@ -50,12 +40,12 @@ section_told s t e =
       compression_limit = lc i;
       tension_limit = lt i;
       stiffness = ps i;
-      diameters = is_prop→PathP (λ j. (3000 ≤ di j) × (di j < dc j) × (dc j < dx j) × (dx j ≤ 120000)) (λ j. four le_prop le_prop le_prop le_prop) s.diameters t.diameters i;
-      areas = is_prop→PathP (λ j. (100 ≤ ae j) × (ae j ≤ ag j) × (ag j ≤ 100000)) (λ j. three le_prop le_prop le_prop) s.areas t.areas i;
-      moments = is_prop→PathP (λ j. (100 ≤ ip j) × (ip j ≤ 100000000)) (λ j. two le_prop le_prop) s.moments t.moments i;
-      moduli = is_prop→PathP (λ j. (1000 ≤ el j) × (el j ≤ es j) × (es j ≤ 1000000)) (λ j. three le_prop le_prop le_prop) s.moduli t.moduli i;
-      limits = is_prop→PathP (λ j. (1 ≤ lc j) × (lc j ≤ 2000) × (1 ≤ lt j) × (lt j ≤ 2000)) (λ j. four le_prop le_prop le_prop le_prop) s.limits t.limits i;
-      stiffnesses = is_prop→PathP (λ j. ps j ≤ 100000) (λ j. le_prop) s.stiffnesses t.stiffnesses i;
+      diameters = is_prop→PathP (λ j. (3000 ≤ di j) × (di j < dc j) × (dc j < dx j) × (dx j ≤ 120000)) (λ j. Prim.hlevel props) s.diameters t.diameters i;
+      areas = is_prop→PathP (λ j. (100 ≤ ae j) × (ae j ≤ ag j) × (ag j ≤ 100000)) (λ j. Prim.hlevel props) s.areas t.areas i;
+      moments = is_prop→PathP (λ j. (100 ≤ ip j) × (ip j ≤ 100000000)) (λ j. Prim.hlevel props) s.moments t.moments i;
+      moduli = is_prop→PathP (λ j. (1000 ≤ el j) × (el j ≤ es j) × (es j ≤ 1000000)) (λ j. Prim.hlevel props) s.moduli t.moduli i;
+      limits = is_prop→PathP (λ j. (1 ≤ lc j) × (lc j ≤ 2000) × (1 ≤ lt j) × (lt j ≤ 2000)) (λ j. Prim.hlevel props) s.limits t.limits i;
+      stiffnesses = is_prop→PathP (λ j. ps j ≤ 100000) (λ j. Prim.hlevel props) s.stiffnesses t.stiffnesses i;
     }
 
 walls_told : (a b : Bool) → walls_number a ≡ walls_number b → a ≡ b
@@ -93,13 +83,13 @@ site_told s t e =
       native_modulus = mn i;
       stable_walls = walls_told _ _ wn i;
       live_load = load_told _ _ ln i;
-      fills = is_prop→PathP (λ j. (12001 ≤ h j) × (h j ≤ 1200000)) (λ j. two le_prop le_prop) s.fills t.fills i;
-      trenches = is_prop→PathP (λ j. (1 ≤ bd j) × (bd j ≤ 1200000)) (λ j. two le_prop le_prop) s.trenches t.trenches i;
-      waters = is_prop→PathP (λ j. hw j ≤ 1260000) (λ j. le_prop) s.waters t.waters i;
-      weights = is_prop→PathP (λ j. (500 ≤ wm j) × (wm j ≤ 2000) × (800 ≤ ws j) × (ws j ≤ 2000)) (λ j. four le_prop le_prop le_prop le_prop) s.weights t.weights i;
-      factors = is_prop→PathP (λ j. (100 ≤ kw j) × (kw j ≤ 130)) (λ j. two le_prop le_prop) s.factors t.factors i;
-      installations = is_prop→PathP (λ j. (115 ≤ ke j) × (ke j ≤ 150) × (true ≡ allows (Among 115 135 150) (ke j))) (λ j. three le_prop le_prop (Bool-set _ _)) s.installations t.installations i;
-      natives = is_prop→PathP (λ j. (50 ≤ mn j) × (mn j ≤ 50000)) (λ j. two le_prop le_prop) s.natives t.natives i;
+      fills = is_prop→PathP (λ j. (12001 ≤ h j) × (h j ≤ 1200000)) (λ j. Prim.hlevel props) s.fills t.fills i;
+      trenches = is_prop→PathP (λ j. (1 ≤ bd j) × (bd j ≤ 1200000)) (λ j. Prim.hlevel props) s.trenches t.trenches i;
+      waters = is_prop→PathP (λ j. hw j ≤ 1260000) (λ j. Prim.hlevel props) s.waters t.waters i;
+      weights = is_prop→PathP (λ j. (500 ≤ wm j) × (wm j ≤ 2000) × (800 ≤ ws j) × (ws j ≤ 2000)) (λ j. Prim.hlevel props) s.weights t.weights i;
+      factors = is_prop→PathP (λ j. (100 ≤ kw j) × (kw j ≤ 130)) (λ j. Prim.hlevel props) s.factors t.factors i;
+      installations = is_prop→PathP (λ j. (115 ≤ ke j) × (ke j ≤ 150) × (true ≡ allows (Among 115 135 150) (ke j))) (λ j. Prim.hlevel props) s.installations t.installations i;
+      natives = is_prop→PathP (λ j. (50 ≤ mn j) × (mn j ≤ 50000)) (λ j. Prim.hlevel props) s.natives t.natives i;
     }
 
 flat_told : (ps qs : List Point) → flat ps ≡ flat qs → ps ≡ qs

@@ -11,9 +11,9 @@ lines line places = map (option_map line) places
 
 abbrev pub register_of : Book → Register
 register_of b = record {
-  sections = lines section_line b.sections.places;
-  embedments = lines embedment_line b.embedments.places;
-  shapes = lines shape_line b.shapes.places;
-  grids = lines grid_line b.grids.places;
-  sites = lines site_line b.sites.places;
+  sections = lines section_line b.sections;
+  embedments = lines embedment_line b.embedments;
+  shapes = lines shape_line b.shapes;
+  grids = lines grid_line b.grids;
+  sites = lines site_line b.sites;
 }

@@ -4,19 +4,19 @@ ghost use Rattle.book.specs.Register.{fresh, entered, withdrawn, after_withdrawa
 ghost use Rattle.book.specs.Law.{Changed, Emptied};
 ghost use Rattle.book.specs.Shelves.{register_of};
 ghost use Rattle.records.specs.Cause.{refused};
-ghost use Rattle.records.specs.Lines.{section_line, embedment_line, shape_line, grid_line, site_line};
 
 use crate::kind::Kind;
-use crate::shelf::Shelf;
-use records::{Cause, EmbedmentCurve, Fault, Section, ShapeCurve, Site, SupportGrid};
+use crate::record::Record;
+use crate::shelf;
+use records::{EmbedmentCurve, Fault, Section, ShapeCurve, Site, SupportGrid};
 
 /// The records that stand at the places.
 pub struct Book {
-    sections: Shelf<Section, 24>,
-    embedments: Shelf<EmbedmentCurve, 24>,
-    shapes: Shelf<ShapeCurve, 24>,
-    grids: Shelf<SupportGrid, 4>,
-    sites: Shelf<Site, 96>,
+    pub(crate) sections: [Option<Section>; 24],
+    pub(crate) embedments: [Option<EmbedmentCurve>; 24],
+    pub(crate) shapes: [Option<ShapeCurve>; 24],
+    pub(crate) grids: [Option<SupportGrid>; 4],
+    pub(crate) sites: [Option<Site>; 96],
 }
 
 impl Book {
@@ -25,32 +25,16 @@ impl Book {
         ensures { register_of result ≡ fresh }
     {
         Book {
-            sections: Shelf { places: [None; 24] },
-            embedments: Shelf { places: [None; 24] },
-            shapes: Shelf { places: [None; 24] },
-            grids: Shelf { places: [None; 4] },
-            sites: Shelf { places: [None; 96] },
-        }
-    }
-
-    // Puts the record of these fields at a place of its kind.
-    fn put(&mut self, kind: Kind, place: u64, fields: &[u64]) -> Result<(), Fault>
-        ensures answer { refused result ≡ entry_refusal kind place fields.now }
-        ensures held { MatchResult result
-            (λ _. register_of self.new ≡ entered kind place fields.now (register_of self.old))
-            (λ _. self.new ≡ self.old) }
-        ensures here { OnOk result (standing (register_of self.new) kind place ≡ Some fields.now) }
-    {
-        match kind {
-            Kind::Section => self.sections.enter(place, fields),
-            Kind::Embedment => self.embedments.enter(place, fields),
-            Kind::Shape => self.shapes.enter(place, fields),
-            Kind::Grid => self.grids.enter(place, fields),
-            Kind::Site => self.sites.enter(place, fields),
+            sections: [None; 24],
+            embedments: [None; 24],
+            shapes: [None; 24],
+            grids: [None; 4],
+            sites: [None; 96],
         }
     }
 
     /// Enters the record of these fields at a place of its kind, whatever the place held.
+    #[tactic(auto, using(crate::proofs::Changes::elsewhere, crate::proofs::Rows::from_one))]
     pub fn enter(&mut self, kind: Kind, place: u64, fields: &[u64]) -> Result<(), Fault>
         ensures answer { refused result ≡ entry_refusal kind place fields.now }
         ensures held { MatchResult result
@@ -58,23 +42,13 @@ impl Book {
             (λ _. self.new ≡ self.old) }
         ensures law { OnOk result (Changed (register_of self.old) (register_of self.new) kind place (Some fields.now)) }
     {
-        self.put(kind, place, fields)
-    }
-
-    // Empties a place of a kind.
-    fn empty(&mut self, kind: Kind, place: u64) -> Result<(), Fault>
-        ensures answer { refused result ≡ removal_refusal kind place (register_of self.old) }
-        ensures held { MatchResult result
-            (λ _. register_of self.new ≡ withdrawn kind place (register_of self.old))
-            (λ _. self.new ≡ self.old) }
-        ensures here { OnOk result (standing (register_of self.new) kind place ≡ None) }
-    {
+        // A kind is a value and a record a type, and only a match leads from one to the other.
         match kind {
-            Kind::Section => self.sections.withdraw(place),
-            Kind::Embedment => self.embedments.withdraw(place),
-            Kind::Shape => self.shapes.withdraw(place),
-            Kind::Grid => self.grids.withdraw(place),
-            Kind::Site => self.sites.withdraw(place),
+            Kind::Section => shelf::enter(&mut self.sections, place, fields),
+            Kind::Embedment => shelf::enter(&mut self.embedments, place, fields),
+            Kind::Shape => shelf::enter(&mut self.shapes, place, fields),
+            Kind::Grid => shelf::enter(&mut self.grids, place, fields),
+            Kind::Site => shelf::enter(&mut self.sites, place, fields),
         }
     }
 
@@ -86,63 +60,32 @@ impl Book {
             (λ _. self.new ≡ self.old) }
         ensures law { OnOk result (Emptied (numbered kind) place (register_of self.old) (register_of self.new)) }
     {
-        let Some(kind) = Kind::from_number(kind) else {
-            return Err(Fault {
-                cause: Cause::Place,
-                field: 1,
-            });
-        };
-        self.empty(kind, place)
+        let kind = Kind::try_from(kind).map_err(|cause| Fault { cause, field: 1 })?;
+        match kind {
+            Kind::Section => shelf::withdraw(&mut self.sections, place),
+            Kind::Embedment => shelf::withdraw(&mut self.embedments, place),
+            Kind::Shape => shelf::withdraw(&mut self.shapes, place),
+            Kind::Grid => shelf::withdraw(&mut self.grids, place),
+            Kind::Site => shelf::withdraw(&mut self.sites, place),
+        }
     }
 
-    /// The section at a place.
-    pub fn section(&self, place: u64) -> Option<&Section>
-        ensures { option_map section_line (option_map (λ x. x.now) result) ≡ standing (register_of self.now) Kind.Section place }
+    /// The record at a place of its kind.
+    pub fn get<T: Record>(&self, place: u64) -> Option<&T>
+        ensures { option_map T.line (option_map (λ x. x.now) result) ≡ standing (register_of self.now) T.kind place }
     {
-        self.sections.get(place)
+        shelf::held_at(T::shelf(self), place)
     }
 
-    /// The embedment curve at a place.
-    pub fn embedment(&self, place: u64) -> Option<&EmbedmentCurve>
-        ensures { option_map embedment_line (option_map (λ x. x.now) result) ≡ standing (register_of self.now) Kind.Embedment place }
-    {
-        self.embedments.get(place)
-    }
-
-    /// The shape curve at a place.
-    pub fn shape(&self, place: u64) -> Option<&ShapeCurve>
-        ensures { option_map shape_line (option_map (λ x. x.now) result) ≡ standing (register_of self.now) Kind.Shape place }
-    {
-        self.shapes.get(place)
-    }
-
-    /// The support grid at a place.
-    pub fn grid(&self, place: u64) -> Option<&SupportGrid>
-        ensures { option_map grid_line (option_map (λ x. x.now) result) ≡ standing (register_of self.now) Kind.Grid place }
-    {
-        self.grids.get(place)
-    }
-
-    /// The site at a place.
-    pub fn site(&self, place: u64) -> Option<&Site>
-        ensures { option_map site_line (option_map (λ x. x.now) result) ≡ standing (register_of self.now) Kind.Site place }
-    {
-        self.sites.get(place)
-    }
-
+    // A book derives no Drop, by a rule of the project: so no program loses one by accident.
     /// Lets the book go, with its records.
     pub fn discard(self) {
         let Book {
-            sections,
-            embedments,
-            shapes,
-            grids,
-            sites,
+            sections: _,
+            embedments: _,
+            shapes: _,
+            grids: _,
+            sites: _,
         } = self;
-        sections.discard();
-        embedments.discard();
-        shapes.discard();
-        grids.discard();
-        sites.discard();
     }
 }

@@ -1,6 +1,8 @@
 ghost use Rattle.std.specs.Prelude.{◌≡◌};
+ghost use Rattle.std.specs.Option.{ok_or};
 ghost use Rattle.book.specs.Register.{numbered, places, place_refusal};
 ghost use Rattle.records.specs.Cause.{refused};
+ghost use Rattle.records.specs.declared.fault.Cause.TheVariants.{Place};
 
 use records::{Cause, Fault};
 
@@ -14,21 +16,25 @@ pub enum Kind {
     Site,
 }
 
-impl Kind {
-    /// The kind of a number from 1 to 5.
-    pub fn from_number(number: u64) -> Option<Kind>
-        ensures { result ≡ numbered number }
-    {
+/// The kind of a number from 1 to 5.
+impl TryFrom<u64> for Kind {
+    type Error = Cause;
+
+    ghost try_from_gives = { λ number result. result ≡ ok_or (numbered number) Place };
+
+    fn try_from(number: u64) -> Result<Self, Cause> {
         match number {
-            1 => Some(Kind::Section),
-            2 => Some(Kind::Embedment),
-            3 => Some(Kind::Shape),
-            4 => Some(Kind::Grid),
-            5 => Some(Kind::Site),
-            _ => None,
+            1 => Ok(Kind::Section),
+            2 => Ok(Kind::Embedment),
+            3 => Ok(Kind::Shape),
+            4 => Ok(Kind::Grid),
+            5 => Ok(Kind::Site),
+            _ => Err(Cause::Place),
         }
     }
+}
 
+impl Kind {
     /// How many places a book has for the kind.
     pub fn places(self) -> u64
         ensures { result ≡ places self }
@@ -45,7 +51,7 @@ impl Kind {
 pub fn check_place(field: u64, count: u64, place: u64) -> Result<(), Fault>
     ensures { refused result ≡ place_refusal field count place }
 {
-    if 1 <= place && place <= count {
+    if (1..=count).contains(&place) {
         Ok(())
     } else {
         Err(Fault {

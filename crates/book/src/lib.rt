@@ -8,4 +8,4 @@ mod shelf;
 
 pub use book::Book;
 pub use kind::{Kind, check_place};
-pub use record::lines_tell_records;
+pub use record::{Record, lines_tell_records};

@@ -1,72 +1,97 @@
-ghost use Rattle.std.specs.Prelude.{◌≡◌, ℕ, List, Option};
+ghost use Rattle.std.specs.Prelude.{◌≡◌, ℕ, List};
+ghost use Rattle.book.specs.Register.{record_refusal, row};
+ghost use Rattle.book.specs.Shelves.{lines, register_of};
 ghost use Rattle.book.specs.Told.{Told};
-ghost use Rattle.records.specs.Cause.{Refusal, answered, unless};
-ghost use Rattle.records.specs.Curve.{curve_refusal, embedment_rules, shape_rules};
-ghost use Rattle.records.specs.Grid.{grid_refusal};
+ghost use Rattle.book.specs.declared.kind.Kind.{Kind};
+ghost use Rattle.book.specs.declared.kind.Kind.TheVariants.{Section as SectionKind, Embedment, Shape, Grid, Site as SiteKind};
+ghost use Rattle.records.specs.Cause.{answered, unless};
 ghost use Rattle.records.specs.Lines.{section_line, embedment_line, shape_line, grid_line, site_line};
-ghost use Rattle.records.specs.Section.{section_refusal};
-ghost use Rattle.records.specs.Site.{site_refusal};
 
+use crate::book::Book;
 use records::{EmbedmentCurve, Fault, Section, ShapeCurve, Site, SupportGrid};
 
 /// What a line can state.
 pub trait Record: Copy {
+    ghost kind: { Kind };
     /// The record's fields after the place.
     ghost line: { Self → List ℕ };
-    /// Why fields make no such record.
-    ghost refusal: { List ℕ → Option Refusal };
 
+    /// The record of these fields, or why there is none.
     fn of_fields(fields: &[u64]) -> Result<Self, Fault>
-        ensures { answered line result ≡ unless (refusal fields.now) fields.now };
+        ensures { answered line result ≡ unless (record_refusal kind fields.now) fields.now };
+
+    /// What stands at the places of this kind.
+    fn shelf(book: &Book) -> &[Option<Self>]
+        ensures { lines line result.now ≡ row kind (register_of book.now) };
 }
 
 impl Record for Section {
-    ghost line = { section_line };
+    ghost kind = { SectionKind };
 
-    ghost refusal = { section_refusal };
+    ghost line = { section_line };
 
     fn of_fields(fields: &[u64]) -> Result<Self, Fault> {
         Section::new(fields)
     }
+
+    fn shelf(book: &Book) -> &[Option<Self>] {
+        &book.sections
+    }
 }
 
 impl Record for EmbedmentCurve {
-    ghost line = { embedment_line };
+    ghost kind = { Embedment };
 
-    ghost refusal = { curve_refusal embedment_rules };
+    ghost line = { embedment_line };
 
     fn of_fields(fields: &[u64]) -> Result<Self, Fault> {
         EmbedmentCurve::new(fields)
     }
+
+    fn shelf(book: &Book) -> &[Option<Self>] {
+        &book.embedments
+    }
 }
 
 impl Record for ShapeCurve {
-    ghost line = { shape_line };
+    ghost kind = { Shape };
 
-    ghost refusal = { curve_refusal shape_rules };
+    ghost line = { shape_line };
 
     fn of_fields(fields: &[u64]) -> Result<Self, Fault> {
         ShapeCurve::new(fields)
     }
+
+    fn shelf(book: &Book) -> &[Option<Self>] {
+        &book.shapes
+    }
 }
 
 impl Record for SupportGrid {
-    ghost line = { grid_line };
+    ghost kind = { Grid };
 
-    ghost refusal = { grid_refusal };
+    ghost line = { grid_line };
 
     fn of_fields(fields: &[u64]) -> Result<Self, Fault> {
         SupportGrid::new(fields)
     }
+
+    fn shelf(book: &Book) -> &[Option<Self>] {
+        &book.grids
+    }
 }
 
 impl Record for Site {
-    ghost line = { site_line };
+    ghost kind = { SiteKind };
 
-    ghost refusal = { site_refusal };
+    ghost line = { site_line };
 
     fn of_fields(fields: &[u64]) -> Result<Self, Fault> {
         Site::new(fields)
+    }
+
+    fn shelf(book: &Book) -> &[Option<Self>] {
+        &book.sites
     }
 }
 

@@ -1,5 +1,5 @@
 use book::{Book, Kind};
-use records::Fault;
+use records::{EmbedmentCurve, Fault, Section, ShapeCurve, Site, SupportGrid};
 use std::process::Abort;
 
 const SECTION: [u64; 11] = [
@@ -25,10 +25,7 @@ fn told(answer: Result<(), Fault>) -> (u8, u64) {
 }
 
 fn fill_at(book: &Book, place: u64) -> Option<u64> {
-    match book.site(place) {
-        Some(site) => Some(site.fill),
-        None => None,
-    }
+    Some(book.get::<Site>(place)?.fill)
 }
 
 fn replaces(rt: &impl Abort, book: &mut Book) {
@@ -86,11 +83,11 @@ fn a_refusal_changes_nothing(rt: HostRuntime) {
 // Which kinds have a record at the place.
 fn standing(book: &Book, place: u64) -> [bool; 5] {
     [
-        book.section(place).is_some(),
-        book.embedment(place).is_some(),
-        book.shape(place).is_some(),
-        book.grid(place).is_some(),
-        book.site(place).is_some(),
+        book.get::<Section>(place).is_some(),
+        book.get::<EmbedmentCurve>(place).is_some(),
+        book.get::<ShapeCurve>(place).is_some(),
+        book.get::<SupportGrid>(place).is_some(),
+        book.get::<Site>(place).is_some(),
     ]
 }
 

@@ -3,7 +3,7 @@ use judging::Sheet;
 use records::Fault;
 
 /// How many claims were marked right, wrong, and left unmarked.
-#[derive(Clone, Copy, PartialEq, Eq, Debug)]
+#[derive(Clone, Copy, PartialEq, Eq, Debug, Default)]
 pub struct Tallies {
     pub right: u64,
     pub wrong: u64,

@@ -1,25 +1,21 @@
 -- The case of the records at five places.
-use Rattle.std.proofs.Common.{◌≡◌, true, false, ◌&&◌, leb, IfOk, Some, None, Ok, Err, Option, Result, refl, subst}
+use Rattle.std.proofs.Common.{◌≡◌, IfOk, Some, None, Ok, Err, Option, Result, refl, subst}
 use Rattle.std.proofs.lemmas.Bool.{true≢false}
 use Rattle.book.specs.Register.{Register, standing}
-use Rattle.book.proofs.Rows.{neither}
 use Rattle.book.specs.declared.kind.Kind.TheVariants.{Section as SectionKind, Embedment, Shape, Grid, Site as SiteKind}
 use Rattle.calls.specs.declared.call.CasePlaces.{CasePlaces}
-use Rattle.calls.specs.declared.call.Reading.{Reading}
 use Rattle.equations.specs.Design.{Design}
 use Rattle.quantities.specs.Case.{records_of, design_of, answer, unless_refused, case_refusal}
 use Rattle.quantities.specs.declared.case.Case.{Case}
-use Rattle.records.specs.Cause.{Refusal, refusal, refused, first}
+use Rattle.records.specs.Cause.{Refusal, refused, first}
 use Rattle.records.specs.Lines.{section_line, embedment_line, shape_line, grid_line, site_line}
 use Rattle.records.specs.declared.curve.EmbedmentCurve.{EmbedmentCurve}
 use Rattle.records.specs.declared.curve.ShapeCurve.{ShapeCurve}
-use Rattle.records.specs.declared.fault.Cause.TheVariants.{Figure}
 use Rattle.records.specs.declared.fault.Fault.{Fault}
 use Rattle.records.specs.declared.grid.SupportGrid.{SupportGrid}
 use Rattle.records.specs.declared.section.Section.{Section}
 use Rattle.records.specs.declared.site.Site.{Site}
-use Rattle.sitting.specs.Cases.{places_refusal, vacancy, misfit, Stands, case_refusal as case_at}
-use Rattle.sitting.specs.Sittings.{reading_refusal}
+use Rattle.sitting.specs.Cases.{vacancy, misfit, Stands}
 
 told : (P : Design → Type 0) (o : Option Refusal) (d : Design) (r : Result Case Fault) → answer r ≡ unless_refused o d → P d
     → (refused r ≡ o) × IfOk r (λ c. P (design_of c))
@@ -36,15 +32,3 @@ pub gathered : (g : Register) (p : CasePlaces) (s : Section) (e : EmbedmentCurve
 gathered g p s e f k t r hs he hf hk ht a =
     let q = told (λ d. Stands g p d) (case_refusal s t) (records_of s e f k t) r a (record { section = hs; embedment = he; shape = hf; grid = hk; site = ht }) in
     (rw (hs, he, hf, hk, ht) q.0, q.1)
-
--- a case that nothing refuses
-pub unrefused_case : (g : Register) (p : CasePlaces) → None ≡ places_refusal p → None ≡ first (vacancy g p) (misfit g p) → None ≡ case_at g p
-unrefused_case g p a b = neither _ _ a b
-
-pub unrefused_reading : (g : Register) (r : Reading) → None ≡ case_at g r.case → (leb 1 r.figure && leb r.figure 8) ≡ true → None ≡ reading_refusal g r
-unrefused_reading g r h t = rw (← h, t) refl
-
--- a figure of another number is refused
-pub no_reading : (g : Register) (r : Reading) → None ≡ case_at g r.case → (leb 1 r.figure && leb r.figure 8) ≡ false
-    → Some (refusal Figure 6) ≡ reading_refusal g r
-no_reading g r h t = rw (← h, t) refl

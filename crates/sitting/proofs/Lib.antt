@@ -1,2 +1,2 @@
-mod Gathered
-mod Counting
+pub mod Counting
+pub mod Gathered

@@ -1,7 +1,8 @@
 -- The claims of a marking: why they are refused, and how many have each mark.
-use Rattle.std.specs.Prelude.{ℕ, ◌+◌, cond, ◌&&◌, List, [], ◌∷◌, Some, None, Option, nat_le}
+use Rattle.std.specs.Prelude.{ℕ, ◌+◌, Bool, false, cond, ◌&&◌, List, [], ◌∷◌, Some, None, Option, ◌==◌, nat_le, count_by}
 use Rattle.calls.specs.declared.answer.Tallies.{Tallies}
-use Rattle.judging.specs.Claims.{on_figure, in_range}
+use Rattle.judging.specs.Answers.{mark_number}
+use Rattle.judging.specs.Claims.{in_range}
 use Rattle.judging.specs.declared.answer.Mark.{Mark}
 use Rattle.judging.specs.declared.answer.Mark.TheVariants.{Right, Wrong, Unmarked}
 use Rattle.judging.specs.declared.claims.Claim.{Claim}
@@ -12,9 +13,13 @@ use Rattle.records.specs.declared.fault.Cause.TheVariants.{Range, Figure, Claim 
 abbrev pub count_refusal : ℕ → Option Refusal
 count_refusal n = cond (nat_le 1 n && nat_le n 8) None (Some (refusal Range 0))
 
+-- no figure of the number in field f
+abbrev pub figure_refusal : ℕ → ℕ → Option Refusal
+figure_refusal f n = cond (nat_le 1 n && nat_le n 8) None (Some (refusal Figure f))
+
 -- a claim whose figure is in field f, and its value in the next
 abbrev pub claim_refusal : ℕ → Claim → Option Refusal
-claim_refusal f c = cond (on_figure c) (cond (in_range c) None (Some (refusal ClaimCause (f + 1)))) (Some (refusal Figure f))
+claim_refusal f c = first (figure_refusal f c.figure) (cond (in_range c) None (Some (refusal ClaimCause (f + 1))))
 
 -- claim by claim, from field f on
 abbrev pub claims_refusal : ℕ → List Claim → Option Refusal
@@ -32,27 +37,14 @@ room_refusal t n = cond (nat_le (total t + n) 60000) None (Some (refusal Tally 0
 abbrev pub no_tallies : Tallies
 no_tallies = record { right = 0; wrong = 0; unmarked = 0 }
 
--- 1 where this mark stands beside a claim
-abbrev pub tells : Mark → Option Mark → ℕ
-tells k None = 0
-tells Right (Some Right) = 1
-tells Right (Some Wrong) = 0
-tells Right (Some Unmarked) = 0
-tells Wrong (Some Right) = 0
-tells Wrong (Some Wrong) = 1
-tells Wrong (Some Unmarked) = 0
-tells Unmarked (Some Right) = 0
-tells Unmarked (Some Wrong) = 0
-tells Unmarked (Some Unmarked) = 1
+-- whether this mark stands beside a claim
+abbrev pub tells : Mark → Option Mark → Bool
+tells k None = false
+tells k (Some m) = mark_number m == mark_number k
 
 -- how many claims have this mark beside them
 abbrev pub counts : Mark → List Claim → ℕ
-counts k [] = 0
-counts k (c ∷ cs) = tells k c.mark + counts k cs
-
--- with one mark more
-abbrev pub plus : Option Mark → Tallies → Tallies
-plus m t = record { right = t.right + tells Right m; wrong = t.wrong + tells Wrong m; unmarked = t.unmarked + tells Unmarked m }
+counts k cs = count_by (λ c. tells k c.mark) cs
 
 -- with the marks beside some claims
 abbrev pub counted : Tallies → List Claim → Tallies

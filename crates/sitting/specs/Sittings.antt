@@ -1,5 +1,5 @@
 -- What a sitting answers.
-use Rattle.std.specs.Prelude.{◌≡◌, ℕ, cond, ◌&&◌, List, [], ◌∷◌, length, Some, None, Option, nat_le}
+use Rattle.std.specs.Prelude.{◌≡◌, ℕ, List, [], ◌∷◌, length, Option}
 use Rattle.book.specs.Register.{Register}
 use Rattle.book.specs.Shelves.{register_of}
 use Rattle.calls.specs.declared.answer.Tallies.{Tallies}
@@ -7,16 +7,14 @@ use Rattle.calls.specs.declared.call.CasePlaces.{CasePlaces}
 use Rattle.calls.specs.declared.call.Reading.{Reading}
 use Rattle.enclosure.specs.Model.{Model}
 use Rattle.equations.specs.Design.{Design}
-use Rattle.equations.specs.Figures.{figure_numbered, figure_millionths}
-use Rattle.equations.specs.declared.figure.Figure.{Figure}
+use Rattle.equations.specs.Figures.{figure_millionths}
 use Rattle.judging.specs.Claims.{Earned}
 use Rattle.judging.specs.Judged.{SheetJudged, Means, ReadOutOf}
 use Rattle.judging.specs.declared.claims.Claim.{Claim}
 use Rattle.judging.specs.declared.sheet.Sheet.{Sheet}
-use Rattle.records.specs.Cause.{Refusal, refusal, first}
-use Rattle.records.specs.declared.fault.Cause.TheVariants.{Figure as FigureCause}
+use Rattle.records.specs.Cause.{Refusal, first}
 use Rattle.sitting.specs.Cases.{Stands, places_refusal, vacancy, misfit, case_refusal}
-use Rattle.sitting.specs.Claims.{count_refusal, claims_refusal, room_refusal}
+use Rattle.sitting.specs.Claims.{count_refusal, figure_refusal, claims_refusal, room_refusal}
 use Rattle.sitting.specs.declared.sitting.Sitting.{Sitting}
 
 -- the records that stand in a sitting
@@ -25,7 +23,7 @@ held s = register_of s.book
 
 -- why a figure is not read: no case, or no such figure
 abbrev pub reading_refusal : Register → Reading → Option Refusal
-reading_refusal g r = first (case_refusal g r.case) (cond (nat_le 1 r.figure && nat_le r.figure 8) None (Some (refusal FigureCause 6)))
+reading_refusal g r = first (case_refusal g r.case) (figure_refusal 6 r.figure)
 
 -- why claims are not marked: places, the count of claims, the case, claim by claim, the tallies
 abbrev pub marking_refusal : Register → Tallies → CasePlaces → List Claim → Option Refusal
@@ -44,9 +42,7 @@ pub record SheetOf {E : Type 0} (m : Model E) (g : Register) (p : CasePlaces) (s
 pub record FigureOf {E : Type 0} (m : Model E) (g : Register) (r : Reading) (below above : ℕ) : Type 0 where
   pub design : Design
   pub stands : Stands g r.case design
-  pub figure : Figure
-  pub numbered : figure_numbered r.figure ≡ Some figure
-  pub read : ReadOutOf m.fineness (figure_millionths figure design) below above
+  pub read : ReadOutOf m.fineness (figure_millionths r.figure design) below above
 
 -- each claim keeps its figure and its value, and the mark that it earns stands beside it
 abbrev pub AllEarned : {E : Type 0} → Model E → Design → List Claim → List Claim → Type 0

@@ -4,10 +4,9 @@ ghost use Rattle.book.specs.Register.{standing, empty_refusal};
 ghost use Rattle.book.specs.Shelves.{register_of};
 ghost use Rattle.quantities.specs.Case.{design_of};
 ghost use Rattle.records.specs.Cause.{refused, first};
-ghost use Rattle.records.specs.Lines.{section_line, embedment_line, shape_line, grid_line, site_line};
 ghost use Rattle.sitting.specs.Cases.{places_refusal, vacancy, misfit, Stands};
 
-use book::{Book, Kind, check_place};
+use book::{Book, Kind, Record, check_place};
 use calls::CasePlaces;
 use quantities::Case;
 use records::{Cause, EmbedmentCurve, Fault, Section, ShapeCurve, Site, SupportGrid};
@@ -23,64 +22,15 @@ pub(crate) fn check_places(case: CasePlaces) -> Result<(), Fault>
     check_place(5, Kind::Site.places(), case.site)
 }
 
-// Nothing stands at the place in this field.
-fn empty(field: u64) -> Fault
-    ensures { result ≡ record { cause = Cause.Empty; field = field } }
+// The record at a place, which stands in this field of the call.
+fn record_at<T: Record>(book: &Book, field: u64, place: u64) -> Result<&T, Fault>
+    ensures answer { refused result ≡ empty_refusal field (standing (register_of book.now) T.kind place) }
+    ensures stands { IfOk result (λ t. standing (register_of book.now) T.kind place ≡ Some (T.line t.now)) }
 {
-    Fault {
+    book.get(place).ok_or(Fault {
         cause: Cause::Empty,
         field,
-    }
-}
-
-fn section_at(book: &Book, place: u64) -> Result<&Section, Fault>
-    ensures answer { refused result ≡ empty_refusal 1 (standing (register_of book.now) Kind.Section place) }
-    ensures stands { IfOk result (λ t. standing (register_of book.now) Kind.Section place ≡ Some (section_line t.now)) }
-{
-    match book.section(place) {
-        Some(section) => Ok(section),
-        None => Err(empty(1)),
-    }
-}
-
-fn embedment_at(book: &Book, place: u64) -> Result<&EmbedmentCurve, Fault>
-    ensures answer { refused result ≡ empty_refusal 2 (standing (register_of book.now) Kind.Embedment place) }
-    ensures stands { IfOk result (λ t. standing (register_of book.now) Kind.Embedment place ≡ Some (embedment_line t.now)) }
-{
-    match book.embedment(place) {
-        Some(curve) => Ok(curve),
-        None => Err(empty(2)),
-    }
-}
-
-fn shape_at(book: &Book, place: u64) -> Result<&ShapeCurve, Fault>
-    ensures answer { refused result ≡ empty_refusal 3 (standing (register_of book.now) Kind.Shape place) }
-    ensures stands { IfOk result (λ t. standing (register_of book.now) Kind.Shape place ≡ Some (shape_line t.now)) }
-{
-    match book.shape(place) {
-        Some(curve) => Ok(curve),
-        None => Err(empty(3)),
-    }
-}
-
-fn grid_at(book: &Book, place: u64) -> Result<&SupportGrid, Fault>
-    ensures answer { refused result ≡ empty_refusal 4 (standing (register_of book.now) Kind.Grid place) }
-    ensures stands { IfOk result (λ t. standing (register_of book.now) Kind.Grid place ≡ Some (grid_line t.now)) }
-{
-    match book.grid(place) {
-        Some(grid) => Ok(grid),
-        None => Err(empty(4)),
-    }
-}
-
-fn site_at(book: &Book, place: u64) -> Result<&Site, Fault>
-    ensures answer { refused result ≡ empty_refusal 5 (standing (register_of book.now) Kind.Site place) }
-    ensures stands { IfOk result (λ t. standing (register_of book.now) Kind.Site place ≡ Some (site_line t.now)) }
-{
-    match book.site(place) {
-        Some(site) => Ok(site),
-        None => Err(empty(5)),
-    }
+    })
 }
 
 /// The case of the records at these places.
@@ -88,10 +38,10 @@ pub(crate) fn gather(book: &Book, case: CasePlaces) -> Result<Case, Fault>
     ensures answer { refused result ≡ first (vacancy (register_of book.now) case) (misfit (register_of book.now) case) }
     ensures stands { IfOk result (λ c. Stands (register_of book.now) case (design_of c)) }
 {
-    let section = section_at(book, case.section)?;
-    let embedment = embedment_at(book, case.embedment)?;
-    let shape = shape_at(book, case.shape)?;
-    let grid = grid_at(book, case.grid)?;
-    let site = site_at(book, case.site)?;
+    let section = record_at::<Section>(book, 1, case.section)?;
+    let embedment = record_at::<EmbedmentCurve>(book, 2, case.embedment)?;
+    let shape = record_at::<ShapeCurve>(book, 3, case.shape)?;
+    let grid = record_at::<SupportGrid>(book, 4, case.grid)?;
+    let site = record_at::<Site>(book, 5, case.site)?;
     Case::new(*section, embedment, shape, grid, *site)
 }

@@ -1,17 +1,18 @@
 // Claims: which can be marked, and how many have each mark.
-ghost use Rattle.std.specs.Prelude.{◌≡◌, ◌+◌, ◌≤◌, length};
+ghost use Rattle.std.specs.Prelude.{◌≡◌, ◌≤◌, length, IfOk, OnOk};
+ghost use Rattle.judging.specs.Answers.{figure_number};
 ghost use Rattle.records.specs.Cause.{refused};
-ghost use Rattle.sitting.specs.Claims.{count_refusal, claim_refusal, claims_refusal, room_refusal, counted, counts, plus, total};
+ghost use Rattle.sitting.specs.Claims.{count_refusal, figure_refusal, claim_refusal, claims_refusal, tells, counts};
 
-use calls::Tallies;
 use judging::{Claim, Claimed, Figure, Mark};
 use records::{Cause, Fault};
 
 /// A marking takes 1 to 8 claims.
 pub(crate) fn check_count(count: usize) -> Result<(), Fault>
-    ensures { refused result ≡ count_refusal count }
+    ensures answer { refused result ≡ count_refusal count }
+    ensures few { OnOk result (count ≤ 8) }
 {
-    if 1 <= count && count <= 8 {
+    if (1..=8).contains(&count) {
         Ok(())
     } else {
         Err(Fault {
@@ -21,27 +22,32 @@ pub(crate) fn check_count(count: usize) -> Result<(), Fault>
     }
 }
 
+/// The figure of the number in this field.
+pub(crate) fn asked_figure(field: u64, number: u64) -> Result<Figure, Fault>
+    ensures answer { refused result ≡ figure_refusal field number }
+    ensures number { IfOk result (λ figure. figure_number figure ≡ number) }
+{
+    Figure::numbered(number).ok_or(Fault {
+        cause: Cause::Figure,
+        field,
+    })
+}
+
 // The figure of a claim is in this field, its value in the next.
 fn check_claim(field: u64, claim: Claim) -> Result<(), Fault>
     requires { field ≤ 20 }
     ensures { refused result ≡ claim_refusal field claim }
 {
-    if Figure::numbered(claim.figure).is_none() {
-        return Err(Fault {
-            cause: Cause::Figure,
-            field,
-        });
-    }
-    if Claimed::new(claim.value).is_none() {
-        return Err(Fault {
-            cause: Cause::Claim,
-            field: field + 1,
-        });
-    }
+    asked_figure(field, claim.figure)?;
+    Claimed::new(claim.value).ok_or(Fault {
+        cause: Cause::Claim,
+        field: field + 1,
+    })?;
     Ok(())
 }
 
 /// Refuses the first claim on no figure, or out of range.
+#[tactic(auto, using(crate::proofs::Counting::claims_from))]
 pub(crate) fn check_claims(claims: &[Claim]) -> Result<(), Fault>
     requires { length claims.now ≤ 8 }
     ensures { refused result ≡ claims_refusal 6 claims.now }
@@ -52,55 +58,16 @@ pub(crate) fn check_claims(claims: &[Claim]) -> Result<(), Fault>
     Ok(())
 }
 
-/// A sitting marks 60,000 claims at most.
-pub(crate) fn check_room(tallies: Tallies, count: usize) -> Result<(), Fault>
-    requires total { total tallies ≤ 60000 }
-    requires few { count ≤ 8 }
-    ensures { refused result ≡ room_refusal tallies count }
+// Whether this mark stands beside the claim.
+fn bears(claim: &Claim, mark: Mark) -> bool
+    ensures { result ≡ tells mark claim.now.mark }
 {
-    if tallies.right + tallies.wrong + tallies.unmarked + count as u64 > 60_000 {
-        return Err(Fault {
-            cause: Cause::Tally,
-            field: 0,
-        });
-    }
-    Ok(())
+    claim.mark == Some(mark)
 }
 
-// The tallies with one mark more.
-fn with_mark(tallies: Tallies, mark: Option<Mark>) -> Tallies
-    requires { total tallies ≤ 60000 }
-    ensures { result ≡ plus mark tallies }
+/// How many claims have this mark beside them.
+pub(crate) fn count_of(mark: Mark, claims: &[Claim]) -> usize
+    ensures { result ≡ counts mark claims.now }
 {
-    match mark {
-        Some(Mark::Right) => Tallies {
-            right: tallies.right + 1,
-            wrong: tallies.wrong,
-            unmarked: tallies.unmarked,
-        },
-        Some(Mark::Wrong) => Tallies {
-            right: tallies.right,
-            wrong: tallies.wrong + 1,
-            unmarked: tallies.unmarked,
-        },
-        Some(Mark::Unmarked) => Tallies {
-            right: tallies.right,
-            wrong: tallies.wrong,
-            unmarked: tallies.unmarked + 1,
-        },
-        None => tallies,
-    }
-}
-
-/// The tallies with the marks beside these claims.
-pub(crate) fn with_marks(tallies: Tallies, claims: &[Claim]) -> Tallies
-    requires { total tallies + length claims.now ≤ 60000 }
-    ensures counted { result ≡ counted tallies claims.now }
-    ensures room { total result ≤ 60000 }
-{
-    let mut sum = tallies;
-    for claim in claims {
-        sum = with_mark(sum, claim.mark);
-    }
-    sum
+    claims.iter().filter(|claim| bears(claim, mark)).count()
 }

@@ -3,7 +3,6 @@
 
 mod cases;
 mod claims;
-mod questions;
 mod sitting;
 
 pub use sitting::Sitting;
