@@ -1,5 +1,5 @@
 -- Enclosures with equal ends are equal.
-use Rattle.std.proofs.Common.{◌≡◌, ℕ, ◌^◌, Some, None, Option, refl, ap, le_antisymm, le_of_mul-le-mul_right}
+use Rattle.std.proofs.Common.{◌≡◌, ◌^◌, Some, None, Option, refl, ap, le_antisymm, le_of_mul-le-mul_right}
 use Rattle.fraction.specs.Fraction.{Same}
 use Rattle.rounding.specs.declared.radix.Radix.{Ghosts}
 use Rattle.rounding.specs.declared.end.End.{End}

@@ -27,8 +27,8 @@ module _ {R : Type 0} {g : Ghosts R} where
       }
 
   -- ends that are in order, by equal ones that are
-  pub ordered_by : {l m : End R g} {h k : Option (End R g)} → l ≡ m → h ≡ k → Ordered m k → Ordered l h
-  ordered_by {l} {m} {h} {k} p q o = subst (λ (x : End R g). Ordered x h) (sym p) (subst (λ (x : Option (End R g)). Ordered m x) (sym q) o)
+  pub ordered_by : {l m : End R g} {h k : Option (End R g)} → Ordered m k → l ≡ m → h ≡ k → Ordered l h
+  ordered_by {l} {m} {h} {k} o p q = subst (λ (x : End R g). Ordered x h) (sym p) (subst (λ (x : Option (End R g)). Ordered m x) (sym q) o)
 
 -- by what is known where there is a value, and where there is none
 pub matched : {A N : Type 0} {P : A → Type 0} (Q : Option A → Type 0) → (N → Q None) → ((x : A) → P x → Q (Some x)) → (o : Option A) → MatchOption o N P → Q o

@@ -10,10 +10,9 @@ pub spanning-requires : goal.spanning-requires
 spanning-requires g c =
     let a = c.args.self in
     let b = c.args.other in
-    ordered_by
+    ordered_by (quotient_ordered g.R.Radix a.lower b.lower a.upper b.upper (is_ordered a) (is_ordered b))
     (matched (λ k. or_zero c.and_then.result ≡ lower_quotient a.lower k) (ap or_zero) (λ x p. search rules) b.upper c.and_then.ensures)
     (matched (λ h. c.and_then-2.result ≡ upper_quotient h b.lower) (λ e. e) (λ x p. search rules) a.upper c.and_then-2.ensures)
-    (quotient_ordered g.R.Radix a.lower b.lower a.upper b.upper (is_ordered a) (is_ordered b))
 
 pub returns : goal.returns
 returns g c =
