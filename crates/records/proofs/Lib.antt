@@ -6,3 +6,4 @@ pub mod Pairs
 pub mod Ranges
 pub mod Sections
 pub mod Sites
+pub mod Turns

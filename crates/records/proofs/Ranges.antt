@@ -1,5 +1,5 @@
 -- A line's fields: the test against what they may hold, place by place.
-use Rattle.std.proofs.Common.{◌≡◌, ℕ, zero, suc, ◌+◌, ◌%◌, ◌<◌, ◌≤◌, Bool, true, false, cond, T, List, [], ◌∷◌, length, get_or, drop, Some, None, Option, sym, refl, ap, ◌∙◌, le_of_suc-le-suc, not-suc-le-zero, add-one, arith, drop_of_length-le, drop-cons}
+use Rattle.std.proofs.Common.{◌≡◌, ℕ, zero, suc, ◌+◌, ◌%◌, ◌<◌, ◌≤◌, Bool, true, false, cond, T, List, [], ◌∷◌, length, get_or, drop, Some, None, Option, sym, refl, ap, ◌∙◌, le_of_suc-le-suc, not-suc-le-zero, arith, drop_of_length-le, drop-cons}
 use Rattle.std.proofs.Math.Nat.{mod-eq_of_lt}
 use Rattle.std.proofs.lemmas.Bool.Decides.{nat_tests}
 use Rattle.records.specs.declared.fault.Cause.TheVariants.{Range}
@@ -8,19 +8,13 @@ use Rattle.records.specs.declared.fields.Allowed.TheVariants.{Between, Among}
 use Rattle.records.specs.Cause.{Refusal, refusal, first, none}
 use Rattle.records.specs.Fields.{allows, outside_from, outside}
 
--- one turn: a number that is not allowed ends it, one that is goes on, and the end finds nothing
-module _ (all : List Allowed) (ns : List ℕ) (k i f : ℕ) (whole : Option Refusal) where
-  step : i < length ns → outside_from all k f (drop i ns) ≡ cond (allows (get_or all k (Between 0 0)) (get_or ns i 0)) (outside_from all ((k + 1) % length all) (f + 1) (drop (i + 1) ns)) (Some (refusal Range f))
-  step h = rw (add-one i, drop-cons ns i 0)
+-- a number that is not allowed is found, and one that is allowed is passed
+module _ (all : List Allowed) (k f n : ℕ) (ns rest : List ℕ) (whole : Option Refusal) (r : rest ≡ n ∷ ns) (e : whole ≡ outside_from all k f rest) where
+  pub outside_found : false ≡ allows (get_or all k (Between 0 0)) n → Some (refusal Range f) ≡ whole
+  outside_found t = sym (e ∙ rw (r, ← t) refl)
 
-  pub outside_stop : i < length ns → whole ≡ outside_from all k f (drop i ns) → false ≡ allows (get_or all k (Between 0 0)) (get_or ns i 0) → Some (refusal Range f) ≡ whole
-  outside_stop h e t = sym (e ∙ step h ∙ simp (← t))
-
-  pub outside_on : i < length ns → whole ≡ outside_from all k f (drop i ns) → true ≡ allows (get_or all k (Between 0 0)) (get_or ns i 0) → whole ≡ outside_from all ((k + 1) % length all) (f + 1) (drop (i + 1) ns)
-  outside_on h e t = e ∙ step h ∙ simp (← t)
-
-  pub outside_end : length ns ≤ i → whole ≡ outside_from all k f (drop i ns) → None ≡ whole
-  outside_end h e = sym (e ∙ ap (λ (l : List ℕ). outside_from all k f l) (drop_of_length-le ns h))
+  pub outside_passed : true ≡ allows (get_or all k (Between 0 0)) n → whole ≡ outside_from all ((k + 1) % length all) (f + 1) ns
+  outside_passed t = e ∙ rw (r, ← t) refl
 
 pub cond_none : (b : Bool) (o : Option Refusal) (x : Refusal) → None ≡ cond b o (Some x) → (true ≡ b) × (None ≡ o)
 cond_none true o x e = (refl, e)

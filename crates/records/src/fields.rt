@@ -30,15 +30,13 @@ pub fn in_ranges(allowed: &[Allowed], first: u64, numbers: &[u64]) -> Result<(),
     requires fits { first + length numbers.now < 2 ^ 64 }
     ensures { refused result ≡ outside allowed.now first numbers.now }
 {
-    let mut turn = 0;
-    for (i, n) in numbers.iter().enumerate() {
-        if !allowed[turn].allows(*n) {
+    for (i, (n, range)) in numbers.iter().zip(allowed.iter().cycle()).enumerate() {
+        if !range.allows(*n) {
             return Err(Fault {
                 cause: Cause::Range,
                 field: first + i as u64,
             });
         }
-        turn = (turn + 1) % allowed.len();
     }
     Ok(())
 }

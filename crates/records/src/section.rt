@@ -54,6 +54,7 @@ const STIFFNESS: Allowed = Allowed::Between(0, 100_000);
 impl Section {
     ghost use Rattle.records.specs.Lines.{section_line};
 
+    #[tactic(auto, using(crate::proofs::Sections::section_kept, crate::proofs::Sections::section_made))]
     /// The section of these fields, as its line has them after the place, or why there is none.
     pub fn new(fields: &[u64]) -> Result<Self, Fault>
         ensures { answered section_line result ≡ unless (section_refusal fields.now) fields.now }

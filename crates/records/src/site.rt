@@ -1,4 +1,4 @@
-ghost use Rattle.std.specs.Prelude.{◌≡◌, ◌≤◌, true};
+ghost use Rattle.std.specs.Prelude.{◌≡◌, ◌≤◌, true, MatchBool};
 ghost use Rattle.records.specs.Cause.{answered, unless};
 ghost use Rattle.records.specs.Fields.{allows};
 ghost use Rattle.records.specs.Site.{site_refusal};
@@ -12,6 +12,21 @@ use crate::fields::{Allowed, in_ranges};
 pub enum LiveLoad {
     None,
     Truck,
+}
+
+/// Whether a truck does.
+impl From<bool> for LiveLoad {
+    ghost use Rattle.records.specs.declared.site.LiveLoad.TheVariants.{None, Truck};
+
+    ghost from_gives = { λ truck load. MatchBool truck (load ≡ Truck) (load ≡ None) };
+
+    fn from(truck: bool) -> Self {
+        if truck {
+            LiveLoad::Truck
+        } else {
+            LiveLoad::None
+        }
+    }
 }
 
 /// Where a pipe is laid.
@@ -48,6 +63,7 @@ pub struct Site {
 impl Site {
     ghost use Rattle.records.specs.Lines.{site_line};
 
+    #[tactic(auto, using(crate::proofs::Sites::site_kept, crate::proofs::Sites::site_made))]
     /// The site of these fields, as its line has them after the place, or why there is none.
     pub fn new(fields: &[u64]) -> Result<Self, Fault>
         ensures { answered site_line result ≡ unless (site_refusal fields.now) fields.now }
@@ -93,10 +109,7 @@ impl Site {
             installation_factor,
             native_modulus,
             stable_walls: walls == 1,
-            live_load: match live_load {
-                1 => LiveLoad::Truck,
-                _ => LiveLoad::None,
-            },
+            live_load: LiveLoad::from(live_load == 1),
         })
     }
 }
