@@ -45,7 +45,7 @@ impl<'a, A: Arithmetic> MeasuredCase<'a, A> {
         requires { Hoop A.model (design_of self.now.given.now) hoop }
         ensures { LiveKnown A.model (design_of self.now.given.now) result }
     {
-        let measures = self.measures;
+        let measures = &self.measures;
         let length = live_length(measures.fill);
         let share = length_share(length, measures.outside);
         let pressure = self.live_pressure();
