@@ -1,5 +1,6 @@
 -- What marking a claim tells, and the figures.
 use Rattle.std.proofs.Common.{◌≡◌, ℕ, ◌*◌, ◌^◌, ◌≤◌, ◌⊎◌, sym, refl, ap, ◌∙◌, subst, inl, inr, arith, lit≤}
+use Rattle.std.proofs.Math.Logic.{⊎_map}
 use Rattle.fraction.specs.Fraction.{Fraction, whole, ◌⊘◌}
 use Rattle.enclosure.specs.Model.{Model, Sound}
 use Rattle.enclosure.specs.Answer.{number, compared}
@@ -48,10 +49,6 @@ one_unknown Unknown Yes h = inl refl
 one_unknown Unknown No h = absurd (omega arith)
 one_unknown Unknown Unknown h = inl refl
 
-either : {A B C D : Type 0} → (A → C) → (B → D) → A ⊎ B → C ⊎ D
-either f g (inl a) = inl (f a)
-either f g (inr b) = inr (g b)
-
 module _ {E : Type 0} {m : Model E} (s : Sound m) where
   edge_close : (n : ℕ) → 1 ≤ n → n ≤ 10 ^ 16 → Close m 3 (whole n ⊘ whole 100) (parts_of (computed m) n 100)
   edge_close n h l = closed s ((as_tree m).div (field 1 (10 ^ 16) n h l) ((as_tree m).num 100)) tt
@@ -69,8 +66,8 @@ module _ {E : Type 0} {m : Model E} (s : Sound m) where
         right = λ r.
             let t = both_yes u v (sym is ∙ ap mark_number r) in
             (said_yes m s 3 302 (low_edge c) x l e low q (sym a ∙ t.0), said_yes m s 302 3 x (high_edge c) e h q high (sym b ∙ t.1));
-        wrong = λ r. either (λ t. said_no m s 3 302 (low_edge c) x l e low q (sym a ∙ t)) (λ t. said_no m s 302 3 x (high_edge c) e h q high (sym b ∙ t)) (one_no u v (sym is ∙ ap mark_number r));
-        unmarked = λ r. either (λ t. said_unknown m s 3 302 (low_edge c) x l e low q (lit≤ tt) (sym a ∙ t)) (λ t. said_unknown m s 302 3 x (high_edge c) e h q high (lit≤ tt) (sym b ∙ t)) (one_unknown u v (sym is ∙ ap mark_number r));
+        wrong = λ r. ⊎_map (λ t. said_no m s 3 302 (low_edge c) x l e low q (sym a ∙ t)) (λ t. said_no m s 302 3 x (high_edge c) e h q high (sym b ∙ t)) (one_no u v (sym is ∙ ap mark_number r));
+        unmarked = λ r. ⊎_map (λ t. said_unknown m s 3 302 (low_edge c) x l e low q (lit≤ tt) (sym a ∙ t)) (λ t. said_unknown m s 302 3 x (high_edge c) e h q high (lit≤ tt) (sym b ∙ t)) (one_unknown u v (sym is ∙ ap mark_number r));
       }
 
   -- a figure by another name of it

@@ -1,5 +1,6 @@
 -- What the verdict on a judged sheet means.
 use Rattle.std.proofs.Common.{◌≡◌, ℕ, Bool, true, false, cond, ◌||◌, Some, None, Option, sym, refl, ◌∙◌, subst, arith}
+use Rattle.std.proofs.lemmas.Bool.{or_parts}
 use Rattle.fraction.specs.Fraction.{Fraction, ◌≼◌, ◌≺◌}
 use Rattle.fraction.specs.Graded.{Band}
 use Rattle.enclosure.specs.Model.{Model}
@@ -41,11 +42,6 @@ found P true k l o here later h = subst P (same k l h) (here refl)
     same : (k l : LimitState) → Some k ≡ Some l → k ≡ l
     same k l h = cc
 found P false k l o here later h = later h
-
-settled : (a b : Bool) → (a || b) ≡ false → (a ≡ false) × (b ≡ false)
-settled false false h = (refl, refl)
-settled false true h = let z : ◌≡◌ {A = ℕ} 0 1 = cc in absurd (omega arith)
-settled true b h = let z : ◌≡◌ {A = ℕ} 0 1 = cc in absurd (omega arith)
 
 either : {Q : Type 0} (a b : Bool) → (a ≡ true → Q) → (b ≡ true → Q) → (a || b) ≡ true → Q
 either true b f g h = f refl
@@ -106,13 +102,13 @@ module _ {E : Type 0} (m : Model E) (d : Design) (s : Sheet) (j : SheetJudged m 
       let f5 = passed (failing s.buckling) Buckling _ f4.1 in
       let f6 = passed (failing s.flexibility) Flexibility _ f5.1 in
       let f7 = passed (failing s.buoyancy) Buoyancy None f6.1 in
-      let u1 = settled (unsettled s.thrust) _ t.1 in
-      let u2 = settled (unsettled s.net_tension) _ u1.1 in
-      let u3 = settled (unsettled s.combined) _ u2.1 in
-      let u4 = settled (unsettled s.deflection) _ u3.1 in
-      let u5 = settled (unsettled s.buckling) _ u4.1 in
-      let u6 = settled (unsettled s.flexibility) _ u5.1 in
-      let u7 = settled (unsettled s.buoyancy) false u6.1 in
+      let u1 = or_parts (unsettled s.thrust) _ t.1 in
+      let u2 = or_parts (unsettled s.net_tension) _ u1.1 in
+      let u3 = or_parts (unsettled s.combined) _ u2.1 in
+      let u4 = or_parts (unsettled s.deflection) _ u3.1 in
+      let u5 = or_parts (unsettled s.buckling) _ u4.1 in
+      let u6 = or_parts (unsettled s.flexibility) _ u5.1 in
+      let u7 = or_parts (unsettled s.buoyancy) false u6.1 in
       record {
         thrust = met m s.thrust f1.0 u1.0 j.thrust;
         net_tension = met m s.net_tension f2.0 u2.0 j.net_tension;

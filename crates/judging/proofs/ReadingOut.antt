@@ -1,5 +1,6 @@
 -- The whole numbers that a narrow enclosure is read out in.
 use Rattle.std.proofs.Common.{◌≡◌, ℕ, ◌+◌, ◌-◌, ◌*◌, ◌/◌, ◌^◌, ◌<◌, ◌≤◌, Some, ap, ◌∙◌, mul-le-mul_right, mod-lt, le_of_mul-le-mul_right, arith, lit≤, le-leb}
+use Rattle.std.proofs.lemmas.Option.{same_Some}
 use native.Mathlib.Nat.{div-add-mod}
 use Rattle.fraction.specs.Fraction.{Fraction, ratio, whole, ◌⊕◌, ◌⊗◌, ◌⊘◌, ◌≼◌, Same}
 use Rattle.fraction.specs.Graded.{Within}
@@ -78,9 +79,6 @@ gather : (l x : Fraction) → l ⊕ whole 302 ⊗ x ⊕ whole 302 ⊗ (x ⊗ who
 unfolding whole ◌⊕◌ ◌⊗◌
 gather l x = record { cross = omega arith }
 
-same_value : (a b : ℕ) → Some a ≡ Some b → a ≡ b
-same_value a b h = cc
-
 module _ {E : Type 0} {m : Model E} (s : Sound m) {x : Fraction} {e : E} (p : Known m 302 1 (10 ^ 4) (10 ^ 15) 1 x e) where
   abbrev top : Fraction
   top = p.close.top
@@ -116,8 +114,8 @@ module _ {E : Type 0} {m : Model E} (s : Sound m) {x : Fraction} {e : E} (p : Kn
   read_out a b h k =
       let l = m.lower e in
       let t = p.close.top in
-      let i = same_value a (floor_of l) (h ∙ floor_read) in
-      let j = same_value b (ceiling_of t) (k ∙ ceiling_read) in
+      let i = same_Some a (floor_of l) (h ∙ floor_read) in
+      let j = same_Some b (ceiling_of t) (k ∙ ceiling_read) in
       let share = whole 10000 ⊘ whole m.fineness ⊗ x in
       rw (i, j)
       (record {

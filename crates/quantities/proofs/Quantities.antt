@@ -1,5 +1,6 @@
 -- What is known of each quantity, from what is known of those that it is computed from.
 use Rattle.std.proofs.Common.{◌≡◌, ℕ, ◌*◌, ◌^◌, T, Some, None, Option, arith}
+use Rattle.std.specs.Option.{option_map}
 use Rattle.fraction.specs.Fraction.{Fraction, whole, ◌⊕◌, ◌⊗◌, ◌⊘◌, Same}
 use Rattle.enclosure.specs.Model.{Model, Sound}
 use Rattle.enclosure.specs.Formula.{computed}
@@ -14,7 +15,7 @@ use Rattle.equations.specs.Strains.{live_part, thrust_strain, least_strain, serv
 use Rattle.equations.specs.Bending.{shape_factor, farther_face, bending_factor}
 use Rattle.equations.specs.Deflection.{resistance, soil_deflection, live_deflection, deflection}
 use Rattle.equations.proofs.Arching.{arching_parts}
-use Rattle.quantities.specs.Known.{Known, Perhaps, maybe}
+use Rattle.quantities.specs.Known.{Known, Perhaps}
 use Rattle.quantities.specs.Quantities.{Diameter, Area, Modulus, Moment, Fill, Prism, Water, Live, LiveLength, Soil, Hoop, Arching, LoadFactor, Thrust, LengthShare, LiveThrust, LivePart, Strain, Bending, Deflects}
 use Rattle.quantities.specs.Formulas.{parts_of, plus_of, live_length_of, hoop_stiffness_of, arching_of, load_factor_of, length_share_of, spread_factor_of, hoop_factor_of, live_thrust_of, factored_thrust_of, thrust_of, live_part_of, bending_factor_of, resistance_of, soil_deflection_of, live_deflection_of}
 use Rattle.quantities.proofs.Known.{leaf, known, known_along, meets}
@@ -64,7 +65,7 @@ module _ {E : Type 0} {m : Model E} (s : Sound m) where
     share_known l Do = known s (length_share_of (as_tree m) (leaf l) (leaf Do)) 15 1 10 1 1 tt
 
     -- thrusts
-    pub live_thrust_known : {l Do Di sh cl : E} (pl : Option E) → LiveLength m d l → Diameter m d (outside_diameter d) Do → Diameter m d (inside_diameter d) Di → Hoop m d sh → LengthShare m d cl → Live m d pl → LiveThrust m d (maybe (λ p. live_thrust_of (computed m) cl (spread_factor_of (computed m) l Do Di) (hoop_factor_of (computed m) sh) p Do) pl)
+    pub live_thrust_known : {l Do Di sh cl : E} (pl : Option E) → LiveLength m d l → Diameter m d (outside_diameter d) Do → Diameter m d (inside_diameter d) Di → Hoop m d sh → LengthShare m d cl → Live m d pl → LiveThrust m d (option_map (λ p. live_thrust_of (computed m) cl (spread_factor_of (computed m) l Do Di) (hoop_factor_of (computed m) sh) p Do) pl)
     unfolding live_thrust spread_factor hoop_factor
     live_thrust_known (Some p) l Do Di sh cl pl =
         known s (live_thrust_of (as_tree m) (leaf cl) (spread_factor_of (as_tree m) (leaf l) (leaf Do) (leaf Di)) (hoop_factor_of (as_tree m) (leaf sh)) (leaf pl) (leaf Do)) 150 1 (10 ^ 10) (10 ^ 5) 1 tt
@@ -93,7 +94,7 @@ module _ {E : Type 0} {m : Model E} (s : Sound m) where
         known s (thrust_of (as_tree m) (leaf all) (leaf Do)) 80 1 1000 (10 ^ 5) 1 tt
 
     -- strains
-    pub live_part_known : {ev : E} (q : Option E) → Modulus m d (live_modulus d) ev → LiveThrust m d q → LivePart m d (maybe (λ t. live_part_of (computed m) t ev) q)
+    pub live_part_known : {ev : E} (q : Option E) → Modulus m d (live_modulus d) ev → LiveThrust m d q → LivePart m d (option_map (λ t. live_part_of (computed m) t ev) q)
     unfolding live_part
     live_part_known (Some q) ev t = known s (live_part_of (as_tree m) (leaf t) (leaf ev)) 160 1 (10 ^ 16) 1000 1 tt
     live_part_known None ev t = zero_over (hundredths 175 ⊗ live_thrust d) (live_modulus d) (times_zero (hundredths 175) (live_thrust d) t)
@@ -104,7 +105,7 @@ module _ {E : Type 0} {m : Model E} (s : Sound m) where
         let all = plus_known {k = 160} {e = 1} {f = 10 ^ 16} {g = 1000} {h = 1} 161 1 (10 ^ 9) 1100 1 y p earth lp (λ v q. tt) tt in
         known s ((as_tree m).div (leaf all) (leaf area)) 200 1 (10 ^ 10) (10 ^ 6) 1 tt
 
-    pub service_part_known : {ev : E} (q : Option E) → Modulus m d (live_modulus d) ev → LiveThrust m d q → Perhaps m 160 1 (10 ^ 16) 1000 1 (live_thrust d ⊘ live_modulus d) (maybe (λ t. (computed m).div t ev) q)
+    pub service_part_known : {ev : E} (q : Option E) → Modulus m d (live_modulus d) ev → LiveThrust m d q → Perhaps m 160 1 (10 ^ 16) 1000 1 (live_thrust d ⊘ live_modulus d) (option_map (λ t. (computed m).div t ev) q)
     service_part_known (Some q) ev t = known s ((as_tree m).div (leaf t) (leaf ev)) 160 1 (10 ^ 16) 1000 1 tt
     service_part_known None ev t = zero_over (live_thrust d) (live_modulus d) t
 
@@ -122,7 +123,7 @@ module _ {E : Type 0} {m : Model E} (s : Sound m) where
     unfolding soil_deflection
     soil_deflection_known psp Do r = known s (soil_deflection_of (as_tree m) (leaf psp) (leaf Do) (leaf r)) 60 1 (10 ^ 11) (10 ^ 8) 1 tt
 
-    pub live_deflection_known : {cl Do r : E} (pl : Option E) → LengthShare m d cl → Live m d pl → Diameter m d (outside_diameter d) Do → Known m 40 1 1000 (10 ^ 9) 1 (resistance d (live_modulus d)) r → Perhaps m 120 1 (10 ^ 15) (10 ^ 8) 1 (live_deflection d) (maybe (λ p. live_deflection_of (computed m) cl p Do r) pl)
+    pub live_deflection_known : {cl Do r : E} (pl : Option E) → LengthShare m d cl → Live m d pl → Diameter m d (outside_diameter d) Do → Known m 40 1 1000 (10 ^ 9) 1 (resistance d (live_modulus d)) r → Perhaps m 120 1 (10 ^ 15) (10 ^ 8) 1 (live_deflection d) (option_map (λ p. live_deflection_of (computed m) cl p Do r) pl)
     unfolding live_deflection
     live_deflection_known (Some p) cl pl Do r = known s (live_deflection_of (as_tree m) (leaf cl) (leaf pl) (leaf Do) (leaf r)) 120 1 (10 ^ 15) (10 ^ 8) 1 tt
     live_deflection_known None cl pl Do r =

@@ -16,8 +16,3 @@ pub record Known {E : Type 0} (m : Model E) (n a b c d : ℕ) (x : Fraction) (e 
 abbrev pub Perhaps : {E : Type 0} → Model E → (n a b c d : ℕ) → Fraction → Option E → Type 0
 Perhaps m n a b c d x (Some e) = Known m n a b c d x e
 Perhaps m n a b c d x None = x.num ≡ 0
-
--- what is computed of a value that may be absent
-abbrev pub maybe : {A B : Type 0} → (A → B) → Option A → Option B
-maybe f (Some a) = Some (f a)
-maybe f None = None

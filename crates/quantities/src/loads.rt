@@ -54,7 +54,7 @@ impl<'a, A: Arithmetic> MeasuredCase<'a, A> {
     pub(crate) fn live_pressure(&self) -> Option<A>
         ensures { Live A.model (design_of self.now.given.now) result }
     {
-        let measures = self.measures;
+        let measures = &self.measures;
         let fill = self.given.site.fill;
         let deep = fill > 96_000;
         let paired = 115 * fill + 6 * self.given.section.inside >= 5_200_000;

@@ -1,8 +1,7 @@
-ghost use Rattle.std.specs.Prelude.{◌≡◌};
+ghost use Rattle.std.specs.Prelude.{◌≡◌, option_map};
 ghost use Rattle.enclosure.specs.Formula.{computed};
 ghost use Rattle.quantities.specs.Case.{design_of};
 ghost use Rattle.quantities.specs.Formulas.{plus_of, resistance_of, soil_deflection_of, live_deflection_of};
-ghost use Rattle.quantities.specs.Known.{maybe};
 
 use crate::case::Case;
 use crate::formulas::{live_deflection, parts, plus, resistance, soil_deflection};
@@ -54,7 +53,7 @@ impl<A: Arithmetic> Measures<A> {
         ensures { result ≡ A.model.sum
             (plus_of (computed A.model)
             (soil_deflection_of (computed A.model) prism self.now.outside (resistance_of (computed A.model) self.now.long_modulus self.now.moment self.now.centroid soil))
-            (maybe (λ p. live_deflection_of (computed A.model) live.now.share p self.now.outside (resistance_of (computed A.model) self.now.short_modulus self.now.moment self.now.centroid soil)) live.now.pressure))
+            (option_map (λ p. live_deflection_of (computed A.model) live.now.share p self.now.outside (resistance_of (computed A.model) self.now.short_modulus self.now.moment self.now.centroid soil)) live.now.pressure))
             (A.model.product self.now.centroid service) }
     {
         let long = self.resistance(self.long_modulus, soil);

@@ -1,8 +1,7 @@
-ghost use Rattle.std.specs.Prelude.{◌≡◌};
+ghost use Rattle.std.specs.Prelude.{◌≡◌, option_map};
 ghost use Rattle.enclosure.specs.Formula.{computed};
 ghost use Rattle.quantities.specs.Case.{design_of};
 ghost use Rattle.quantities.specs.Formulas.{plus_of, live_part_of};
-ghost use Rattle.quantities.specs.Known.{maybe};
 ghost use Rattle.quantities.specs.Quantities.{Hoop};
 ghost use Rattle.quantities.specs.Worked.{LiveKnown, WorkedKnown};
 
@@ -27,14 +26,14 @@ fn strain<A: Arithmetic>(thrust: A, modulus: A, live: Option<A>, area: A) -> A
 impl<A: Arithmetic> Live<A> {
     // What the thrust adds to a factored strain, times the area.
     fn factored_part(&self, modulus: A) -> Option<A>
-        ensures { result ≡ maybe (λ t. live_part_of (computed A.model) t modulus) self.now.thrust }
+        ensures { result ≡ option_map (λ t. live_part_of (computed A.model) t modulus) self.now.thrust }
     {
         self.thrust.map(|thrust| live_part(thrust, modulus))
     }
 
     // And to the service strain.
     fn plain_part(&self, modulus: A) -> Option<A>
-        ensures { result ≡ maybe (λ t. A.model.quotient t modulus) self.now.thrust }
+        ensures { result ≡ option_map (λ t. A.model.quotient t modulus) self.now.thrust }
     {
         self.thrust.map(|thrust| thrust.div(modulus))
     }
@@ -45,7 +44,7 @@ impl<'a, A: Arithmetic> MeasuredCase<'a, A> {
         requires { Hoop A.model (design_of self.now.given.now) hoop }
         ensures { LiveKnown A.model (design_of self.now.given.now) result }
     {
-        let measures = self.measures;
+        let measures = &self.measures;
         let length = live_length(measures.fill);
         let share = length_share(length, measures.outside);
         let pressure = self.live_pressure();
