@@ -34,6 +34,7 @@ fn record_at<T: Record>(book: &Book, field: u64, place: u64) -> Result<&T, Fault
 }
 
 /// The case of the records at these places.
+#[tactic(auto, using(crate::proofs::Gathered::refused_of))]
 pub(crate) fn gather(book: &Book, case: CasePlaces) -> Result<Case, Fault>
     ensures answer { refused result ≡ first (vacancy (register_of book.now) case) (misfit (register_of book.now) case) }
     ensures stands { IfOk result (λ c. Stands (register_of book.now) case (design_of c)) }
