@@ -1,9 +1,7 @@
 -- A case: the design of five records that fit together, or why they do not.
 use Rattle.std.specs.Prelude.{◌+◌, ◌*◌, cond, Some, None, Ok, Err, Option, Result, nat_le, nat_lt}
 use Rattle.records.specs.Cause.{Refusal, refusal, stated}
-use Rattle.records.specs.Lines.{embedment_points, shape_points, grid_widths, grid_ratios, grid_factors}
-use Rattle.records.specs.declared.curve.EmbedmentCurve.{EmbedmentCurve}
-use Rattle.records.specs.declared.curve.ShapeCurve.{ShapeCurve}
+use Rattle.records.specs.Lines.{EmbedmentCurve, ShapeCurve, embedment_points, shape_points, grid_widths, grid_ratios, grid_factors}
 use Rattle.records.specs.declared.fault.Cause.TheVariants.{Trench, Water}
 use Rattle.records.specs.declared.fault.Fault.{Fault}
 use Rattle.records.specs.declared.grid.SupportGrid.{SupportGrid}
