@@ -1,5 +1,5 @@
 -- What a sitting answers.
-use Rattle.std.specs.Prelude.{◌≡◌, ℕ, List, [], ◌∷◌, length, Option}
+use Rattle.std.specs.Prelude.{◌≡◌, ℕ, List, [], ◌∷◌, length, Some, Option}
 use Rattle.book.specs.Register.{Register}
 use Rattle.book.specs.Shelves.{register_of}
 use Rattle.calls.specs.declared.answer.Tallies.{Tallies}
@@ -7,7 +7,8 @@ use Rattle.calls.specs.declared.call.CasePlaces.{CasePlaces}
 use Rattle.calls.specs.declared.call.Reading.{Reading}
 use Rattle.enclosure.specs.Model.{Model}
 use Rattle.equations.specs.Design.{Design}
-use Rattle.equations.specs.Figures.{figure_millionths}
+use Rattle.equations.specs.Figures.{figure_millionths, figure_numbered}
+use Rattle.equations.specs.declared.figure.Figure.{Figure}
 use Rattle.judging.specs.Claims.{Earned}
 use Rattle.judging.specs.Judged.{SheetJudged, Means, ReadOutOf}
 use Rattle.judging.specs.declared.claims.Claim.{Claim}
@@ -42,7 +43,9 @@ pub record SheetOf {E : Type 0} (m : Model E) (g : Register) (p : CasePlaces) (s
 pub record FigureOf {E : Type 0} (m : Model E) (g : Register) (r : Reading) (below above : ℕ) : Type 0 where
   pub design : Design
   pub stands : Stands g r.case design
-  pub read : ReadOutOf m.fineness (figure_millionths r.figure design) below above
+  pub figure : Figure
+  pub numbered : figure_numbered r.figure ≡ Some figure
+  pub read : ReadOutOf m.fineness (figure_millionths figure design) below above
 
 -- each claim keeps its figure and its value, and the mark that it earns stands beside it
 abbrev pub AllEarned : {E : Type 0} → Model E → Design → List Claim → List Claim → Type 0

@@ -1,6 +1,6 @@
 // Claims: which can be marked, and how many have each mark.
-ghost use Rattle.std.specs.Prelude.{◌≡◌, ◌≤◌, length, IfOk, OnOk};
-ghost use Rattle.judging.specs.Answers.{figure_number};
+ghost use Rattle.std.specs.Prelude.{◌≡◌, ◌≤◌, length, Some, IfOk, OnOk};
+ghost use Rattle.equations.specs.Figures.{figure_numbered};
 ghost use Rattle.records.specs.Cause.{refused};
 ghost use Rattle.sitting.specs.Claims.{count_refusal, figure_refusal, claim_refusal, claims_refusal, tells, counts};
 
@@ -25,7 +25,7 @@ pub(crate) fn check_count(count: usize) -> Result<(), Fault>
 /// The figure of the number in this field.
 pub(crate) fn asked_figure(field: u64, number: u64) -> Result<Figure, Fault>
     ensures answer { refused result ≡ figure_refusal field number }
-    ensures number { IfOk result (λ figure. figure_number figure ≡ number) }
+    ensures number { IfOk result (λ figure. figure_numbered number ≡ Some figure) }
 {
     Figure::numbered(number).ok_or(Fault {
         cause: Cause::Figure,
