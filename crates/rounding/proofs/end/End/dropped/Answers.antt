@@ -10,17 +10,20 @@ returns-then-k-ge32 g c =
 pub overflow_mul-b16 : goal.overflow_mul-b16
 overflow_mul-b16 g c = let p = powers g.R.Radix.lawful in rw c.BASE-b1.ensures (omega (arith, p.sixteen_fits))
 
-pub stage-n-requires : goal.stage-n-requires
-stage-n-requires g c = let p = powers g.R.Radix.lawful in rw c.BASE-b1.ensures p.sixteen
+pub stage-n-requires-clause-power : goal.stage-n-requires-clause-power
+stage-n-requires-clause-power g c = let p = powers g.R.Radix.lawful in rw c.BASE-b1.ensures p.sixteen
 
-pub stage-n-requires-2 : goal.stage-n-requires-2
-stage-n-requires-2 g c = let p = powers g.R.Radix.lawful in rw c.BASE-b1.ensures p.eight
+pub stage-n-requires-clause-room : goal.stage-n-requires-clause-room
+stage-n-requires-clause-room g c = let p = powers g.R.Radix.lawful in rw c.BASE-b1.ensures (omega (arith, p.sixteen_fits, g.R.Radix.lawful))
 
-pub stage-n-requires-3 : goal.stage-n-requires-3
-stage-n-requires-3 g c = let p = powers g.R.Radix.lawful in rw c.BASE-b1.ensures p.four
+pub stage-n-requires-2-clause-power : goal.stage-n-requires-2-clause-power
+stage-n-requires-2-clause-power g c = let p = powers g.R.Radix.lawful in rw c.BASE-b1.ensures p.eight
 
-pub stage-n-requires-5 : goal.stage-n-requires-5
-stage-n-requires-5 g c = c.BASE-b1.ensures ∙ base_power g.R.Radix.lawful
+pub stage-n-requires-3-clause-power : goal.stage-n-requires-3-clause-power
+stage-n-requires-3-clause-power g c = let p = powers g.R.Radix.lawful in rw c.BASE-b1.ensures p.four
+
+pub stage-n-requires-5-clause-power : goal.stage-n-requires-5-clause-power
+stage-n-requires-5-clause-power g c = c.BASE-b1.ensures ∙ base_power g.R.Radix.lawful
 
 pub returns : goal.returns
 returns g c =
