@@ -71,7 +71,7 @@ join_nat a b sd t p q =
     (λ h. let e : max a b ≡ a = let l = lt_of_not-le h in omega arith in rw e p)
 
 module _ {R : Type 0} (g : Ghosts R) (x : Fraction) (N u : ℕ) (pu : 0 < u) (stands : x.num * (u * g.BASE ^ g.BIAS) ≡ N * x.den) where
-  pub exact_below : value (or_zero {g = g} (rounded {g = g} Down N u)) ≼ x
+  pub exact_below : value (or_zero (rounded {g = g} Down N u)) ≼ x
   exact_below = record { cross = under_nat x.num x.den N u (g.BASE ^ g.BIAS) _ pu stands (below g N u pu) }
 
   reached : (o : Option (End R g)) → Reaches N u o → Below x (bound o)
@@ -99,7 +99,7 @@ module _ {R : Type 0} (g : Ghosts R) (x : Fraction) (N u : ℕ) (pu : 0 < u) (st
     fine : max 1 g.FULL ≡ g.FULL
     fine = one_max g.FULL (omega arith)
 
-    pub near_below : Near g.FULL s x (value (or_zero {g = g} (rounded {g = g} Down N u)))
+    pub near_below : Near g.FULL s x (value (or_zero (rounded {g = g} Down N u)))
     unfolding Q ◌⊕◌ ◌⊘◌ whole
     near_below =
         record {

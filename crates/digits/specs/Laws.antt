@@ -1,4 +1,5 @@
--- Every radix keeps the laws of an arithmetic.
+-- Every radix keeps the laws of an arithmetic. Here, and not in proofs/, since an impl can name the proof of its law
+-- from specs/ only.
 use Rattle.std.specs.Prelude.{◌≡◌, ℕ, ◌+◌, ◌-◌, ◌*◌, ◌^◌, ◌<◌, ◌≤◌, Bool, true, false, cond, Some, None, Option, nat_le, refl}
 use Rattle.std.proofs.Common.{sym, ◌∙◌, subst, mul-le-mul_right, lt_of_not-le, le-leb, eq-eqb, ne_eqb}
 use Rattle.std.proofs.Math.Path.{ap}
@@ -72,7 +73,7 @@ module _ {R : Type 0} (g : Ghosts R) where
   quotient_is a b pos = let e = one_max (units b) pos in omega (arith, ap (λ x. units a * g.BASE ^ g.BIAS * (g.BASE ^ g.BIAS * x)) e)
 
   -- both ends near the exact ones
-  fine_by : (l h s : Fraction) (N u M v : ℕ) → 0 < u → 0 < v → Is l N u → Is h M v → l ≼ huge → h ≼ huge → (e : Enclosure R g) → e.lower ≡ or_zero {g = g} (rounded {g = g} Down N u) → e.upper ≡ rounded {g = g} Up M v → Fine m s l h e
+  fine_by : (l h s : Fraction) (N u M v : ℕ) → 0 < u → 0 < v → Is l N u → Is h M v → l ≼ huge → h ≼ huge → (e : Enclosure R g) → e.lower ≡ or_zero (rounded {g = g} Down N u) → e.upper ≡ rounded {g = g} Up M v → Fine m s l h e
   fine_by l h s N u M v pu pv il ih hl hh e p q =
       let t = near_above g h M v pv ih (h ⊔ tiny ⊔ s) hh (in_scale h s) (tiny_scale h s) in
       record {
@@ -101,7 +102,7 @@ module _ {R : Type 0} (g : Ghosts R) where
   zero_below : (x : Fraction) → value (zero_end {g = g}) ≼ x
   zero_below x = record { cross = omega (arith, ap (λ u. u * x.den) (zero_units g)) }
 
-  lower_is : (n : ℕ) → n ≤ 2 ^ 62 → lower_whole {g = g} n ≡ or_zero {g = g} (rounded {g = g} Down (n * g.BASE ^ g.BIAS) 1)
+  lower_is : (n : ℕ) → n ≤ 2 ^ 62 → lower_whole {g = g} n ≡ or_zero (rounded {g = g} Down (n * g.BASE ^ g.BIAS) 1)
   lower_is n h = ap (λ t. or_zero {g = g} (cond t (rounded {g = g} Down (n * g.BASE ^ g.BIAS) 1) None)) (le-leb n (2 ^ 62) h)
 
   upper_is : (n : ℕ) → n ≤ 2 ^ 62 → upper_whole {g = g} n ≡ rounded {g = g} Up (n * g.BASE ^ g.BIAS) 1
@@ -124,32 +125,32 @@ module _ {R : Type 0} (g : Ghosts R) where
   whole_fine : (n : ℕ) → n ≤ 2 ^ 62 → Fine m (whole 0) (whole n) (whole n) (m.from_whole n)
   whole_fine n h = fine_by (whole n) (whole n) (whole 0) _ 1 _ 1 one one (whole_is n) (whole_is n) (whole_huge n h) (whole_huge n h) (m.from_whole n) (lower_is n h) (upper_is n h)
 
-  sum_high : (h k : Option (End R g)) (x y : Fraction) → Below x (bound h) → Below y (bound k) → Below (x ⊕ y) (bound (upper_sum {g = g} h k))
+  sum_high : (h k : Option (End R g)) (x y : Fraction) → Below x (bound h) → Below y (bound k) → Below (x ⊕ y) (bound (upper_sum h k))
   sum_high (Some h) (Some k) x y p q = below_trans (bound (rounded {g = g} Up (units h + units k) 1)) (plus_le p q) (exact_above g (value h ⊕ value k) _ 1 one (sum_is h k))
   sum_high (Some h) None x y p q = tt
   sum_high None k x y p q = tt
 
-  product_high : (h k : Option (End R g)) (x y : Fraction) → Below x (bound h) → Below y (bound k) → Below (x ⊗ y) (bound (upper_product {g = g} h k))
+  product_high : (h k : Option (End R g)) (x y : Fraction) → Below x (bound h) → Below y (bound k) → Below (x ⊗ y) (bound (upper_product h k))
   product_high (Some h) (Some k) x y p q = below_trans (bound (rounded {g = g} Up (units h * units k) (g.BASE ^ g.BIAS))) (times_le p q) (exact_above g (value h ⊗ value k) _ (g.BASE ^ g.BIAS) (power_pos g.lawful g.BIAS) (product_is h k))
   product_high (Some h) None x y p q = tt
   product_high None k x y p q = tt
 
-  excess_low : (a : End R g) (k : Option (End R g)) (x y : Fraction) → value a ≼ x → Below y (bound k) → value (lower_excess {g = g} a k) ≼ x ⊖ y
+  excess_low : (a : End R g) (k : Option (End R g)) (x y : Fraction) → value a ≼ x → Below y (bound k) → value (lower_excess a k) ≼ x ⊖ y
   excess_low a (Some k) x y p q = le_trans (exact_below g (value a ⊖ value k) _ 1 one (excess_is a k)) (excess_le p q)
   excess_low a None x y p q = zero_below (x ⊖ y)
 
-  excess_high : (h : Option (End R g)) (b : End R g) (x y : Fraction) → Below x (bound h) → value b ≼ y → Below (x ⊖ y) (bound (upper_excess {g = g} h b))
+  excess_high : (h : Option (End R g)) (b : End R g) (x y : Fraction) → Below x (bound h) → value b ≼ y → Below (x ⊖ y) (bound (upper_excess h b))
   excess_high (Some h) b x y p q = below_trans (bound (rounded {g = g} Up (units h - units b) 1)) (excess_le p q) (exact_above g (value h ⊖ value b) _ 1 one (excess_is h b))
   excess_high None b x y p q = tt
 
-  quotient_low : (a : End R g) (k : Option (End R g)) (x y : Fraction) → 0 < y.num → value a ≼ x → Below y (bound k) → value (lower_quotient {g = g} a k) ≼ x ⊘ y
+  quotient_low : (a : End R g) (k : Option (End R g)) (x y : Fraction) → 0 < y.num → value a ≼ x → Below y (bound k) → value (lower_quotient a k) ≼ x ⊘ y
   quotient_low a (Some k) x y pos p q =
       let some = above_zero pos q in
       subst (λ (o : Option (End R g)). value (or_zero {g = g} o) ≼ x ⊘ y) (sym (divided_is (units a) (units k) some))
       (le_trans (exact_below g (value a ⊘ value k) _ (units k) some (quotient_is a k some)) (over_le pos p q))
   quotient_low a None x y pos p q = zero_below (x ⊘ y)
 
-  quotient_high : (h : Option (End R g)) (b : End R g) (x y : Fraction) → Below x (bound h) → value b ≼ y → Below (x ⊘ y) (bound (upper_quotient {g = g} h b))
+  quotient_high : (h : Option (End R g)) (b : End R g) (x y : Fraction) → Below x (bound h) → value b ≼ y → Below (x ⊘ y) (bound (upper_quotient h b))
   quotient_high (Some h) b x y p q =
       dite (dec_le 1 (units b))
       (λ some.
@@ -217,7 +218,7 @@ module _ {R : Type 0} (g : Ghosts R) where
         let x = top_a.end in
         let y = top_b.end in
         subst (λ (f : Fraction). f ≼ huge → Fine m (whole 0) (value a.lower ⊕ value b.lower) f (m.sum a b)) (by_tops ◌⊕◌)
-        (λ p. fine_by _ _ (whole 0) _ 1 _ 1 one one (sum_is a.lower b.lower) (sum_is x y) pl p (m.sum a b) refl (ap (λ o. upper_sum {g = g} o b.upper) top_a.is ∙ ap (λ o. upper_sum {g = g} (Some x) o) top_b.is))
+        (λ p. fine_by _ _ (whole 0) _ 1 _ 1 one one (sum_is a.lower b.lower) (sum_is x y) pl p (m.sum a b) refl (ap (λ o. upper_sum o b.upper) top_a.is ∙ ap (λ o. upper_sum (Some x) o) top_b.is))
         ph
 
     product_fine : value a.lower ⊗ value b.lower ≼ huge → h ⊗ k ≼ huge → Fine m (whole 0) (value a.lower ⊗ value b.lower) (h ⊗ k) (m.product a b)
@@ -226,7 +227,7 @@ module _ {R : Type 0} (g : Ghosts R) where
         let y = top_b.end in
         let u = power_pos g.lawful g.BIAS in
         subst (λ (f : Fraction). f ≼ huge → Fine m (whole 0) (value a.lower ⊗ value b.lower) f (m.product a b)) (by_tops ◌⊗◌)
-        (λ p. fine_by _ _ (whole 0) _ (g.BASE ^ g.BIAS) _ (g.BASE ^ g.BIAS) u u (product_is a.lower b.lower) (product_is x y) pl p (m.product a b) refl (ap (λ o. upper_product {g = g} o b.upper) top_a.is ∙ ap (λ o. upper_product {g = g} (Some x) o) top_b.is))
+        (λ p. fine_by _ _ (whole 0) _ (g.BASE ^ g.BIAS) _ (g.BASE ^ g.BIAS) u u (product_is a.lower b.lower) (product_is x y) pl p (m.product a b) refl (ap (λ o. upper_product o b.upper) top_a.is ∙ ap (λ o. upper_product (Some x) o) top_b.is))
         ph
 
     excess_fine : Fine m h (value a.lower ⊖ k) (h ⊖ value b.lower) (m.excess a b)
@@ -235,7 +236,7 @@ module _ {R : Type 0} (g : Ghosts R) where
         let y = top_b.end in
         subst (λ (f : Fraction). Fine m h (value a.lower ⊖ f) (h ⊖ value b.lower) (m.excess a b)) top_b.same
         (subst (λ (f : Fraction). f ≼ huge → Fine m h (value a.lower ⊖ value y) (f ⊖ value b.lower) (m.excess a b)) top_a.same
-        (λ p. fine_by _ _ h _ 1 _ 1 one one (excess_is a.lower y) (excess_is x b.lower) (le_trans (excess_first (value a.lower) (value y)) ba.low) (le_trans (excess_first (value x) (value b.lower)) p) (m.excess a b) (ap (λ o. lower_excess {g = g} a.lower o) top_b.is) (ap (λ o. upper_excess {g = g} o b.lower) top_a.is))
+        (λ p. fine_by _ _ h _ 1 _ 1 one one (excess_is a.lower y) (excess_is x b.lower) (le_trans (excess_first (value a.lower) (value y)) ba.low) (le_trans (excess_first (value x) (value b.lower)) p) (m.excess a b) (ap (λ o. lower_excess a.lower o) top_b.is) (ap (λ o. upper_excess o b.lower) top_a.is))
         ba.high)
 
     quotient_fine : 0 < units b.lower → value a.lower ⊘ k ≼ huge → h ⊘ value b.lower ≼ huge → Fine m (whole 0) (value a.lower ⊘ k) (h ⊘ value b.lower) (m.quotient a b)
@@ -246,8 +247,8 @@ module _ {R : Type 0} (g : Ghosts R) where
         subst (λ (f : Fraction). f ≼ huge → Fine m (whole 0) (value a.lower ⊘ k) f (m.quotient a b)) (ap (λ v. v ⊘ value b.lower) top_a.same)
         (λ p. subst (λ (f : Fraction). f ≼ huge → Fine m (whole 0) f (value x ⊘ value b.lower) (m.quotient a b)) (ap (λ v. value a.lower ⊘ v) top_b.same)
         (λ q. fine_by _ _ (whole 0) _ (units y) _ (units b.lower) some_y some (quotient_is a.lower y some_y) (quotient_is x b.lower some) q p (m.quotient a b)
-        (ap (λ o. lower_quotient {g = g} a.lower o) top_b.is ∙ ap (or_zero {g = g}) (divided_is (units a.lower) (units y) some_y))
-        (ap (λ o. upper_quotient {g = g} o b.lower) top_a.is ∙ divided_up (units x) (units b.lower) some))
+        (ap (λ o. lower_quotient a.lower o) top_b.is ∙ ap (or_zero {g = g}) (divided_is (units a.lower) (units y) some_y))
+        (ap (λ o. upper_quotient o b.lower) top_a.is ∙ divided_up (units x) (units b.lower) some))
         pl)
         ph
 

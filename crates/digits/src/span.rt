@@ -11,6 +11,7 @@ pub struct Enclosure<R: Radix> {
     ghost ordered: { T (in_order lower upper) },
 }
 
+// By hand, as for `End`.
 impl<R: Radix> Clone for Enclosure<R> {
     ghost is_clone = { λ x y. x ≡ y };
 

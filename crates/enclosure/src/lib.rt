@@ -70,6 +70,7 @@ pub trait ReadOut: Arithmetic {
 }
 
 /// The whole number `n`, which past 2^62 is made of parts: high times 2^61, and a low part from 1 to 2^61.
+#[tactic(auto, using(crate::proofs::WideNumbers::wide_short, crate::proofs::WideNumbers::wide_step))]
 pub fn wide<A: Arithmetic>(n: u128) -> A
     ensures { result ≡ wide_of (computed A.model) n }
 {

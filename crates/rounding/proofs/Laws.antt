@@ -83,7 +83,7 @@ module _ {R : Type 0} (g : Ghosts R) where
 
   module _ (N u : ℕ) (pu : 0 < u) where
     -- rounded down
-    pub below : units (or_zero {g = g} (rounded {g = g} Down N u)) * u ≤ N
+    pub below : units (or_zero (rounded {g = g} Down N u)) * u ≤ N
     below =
         dite (dec_le g.FULL (cut Down N u))
         (λ some.
@@ -106,7 +106,7 @@ module _ {R : Type 0} (g : Ghosts R) where
         none : (u : ℕ) → units (zero_end {g = g}) * u ≤ N
         none u = omega (arith, ap (λ x. x * u) (zero_units g))
 
-    pub below_near : (Q : ℕ) → N ≤ Q → g.FULL * g.FULL * u ≤ Q → InRange N u → g.FULL * N ≤ g.FULL * (units (or_zero {g = g} (rounded {g = g} Down N u)) * u) + Q
+    pub below_near : (Q : ℕ) → N ≤ Q → g.FULL * g.FULL * u ≤ Q → InRange N u → g.FULL * N ≤ g.FULL * (units (or_zero (rounded {g = g} Down N u)) * u) + Q
     below_near Q q s range =
         dite (dec_le g.FULL (cut Down N u))
         (λ some.
@@ -214,10 +214,10 @@ module _ {R : Type 0} (g : Ghosts R) where
               record { end = zero_end {g = g}; is = rounded_none g N u pu Up e; near = omega (arith, ap (λ x. g.FULL * (x * u)) (zero_units g)) })
 
   -- what is rounded down is not above what is rounded up from no less
-  pub rounded_ordered : (N u M v : ℕ) → 0 < u → 0 < v → N * v ≤ M * u → Ordered (or_zero {g = g} (rounded {g = g} Down N u)) (rounded {g = g} Up M v)
+  pub rounded_ordered : (N u M v : ℕ) → 0 < u → 0 < v → N * v ≤ M * u → Ordered (or_zero (rounded {g = g} Down N u)) (rounded {g = g} Up M v)
   rounded_ordered N u M v pu pv h = by (rounded {g = g} Up M v) (above M v pv)
     where
-      by : (o : Option (End R g)) → Reaches M v o → Ordered (or_zero {g = g} (rounded {g = g} Down N u)) o
+      by : (o : Option (End R g)) → Reaches M v o → Ordered (or_zero (rounded {g = g} Down N u)) o
       by (Some e) r =
           le_of_mul-le-mul_right {k = u * v}
           (omega (arith, mul-le-mul_right v (below N u pu), mul-le-mul_right u r))

@@ -45,31 +45,31 @@ module _ {R : Type 0} (g : Ghosts R) where
       (λ h. subst (λ (x : Bool). Ordered (or_zero {g = g} (cond x (rounded {g = g} Down (n * g.BASE ^ g.BIAS) 1) None)) (cond x (rounded {g = g} Up (n * g.BASE ^ g.BIAS) 1) None)) (sym (lt-leb _ _ (lt_of_not-le h))) tt)
 
   module _ (a b : End R g) where
-    pub sum_ordered : (h k : Option (End R g)) → Ordered a h → Ordered b k → Ordered (lower_sum {g = g} a b) (upper_sum {g = g} h k)
+    pub sum_ordered : (h k : Option (End R g)) → Ordered a h → Ordered b k → Ordered (lower_sum a b) (upper_sum h k)
     sum_ordered (Some x) (Some y) p q = rounded_ordered g _ 1 _ 1 (omega arith) (omega arith) (omega arith)
     sum_ordered (Some x) None p q = tt
     sum_ordered None k p q = tt
 
-    pub product_ordered : (h k : Option (End R g)) → Ordered a h → Ordered b k → Ordered (lower_product {g = g} a b) (upper_product {g = g} h k)
+    pub product_ordered : (h k : Option (End R g)) → Ordered a h → Ordered b k → Ordered (lower_product a b) (upper_product h k)
     product_ordered (Some x) (Some y) p q = rounded_ordered g _ _ _ _ (power_pos g.lawful g.BIAS) (power_pos g.lawful g.BIAS) (mul-le-mul_right (g.BASE ^ g.BIAS) (mul-le-mul p q))
     product_ordered (Some x) None p q = tt
     product_ordered None k p q = tt
 
-    pub excess_ordered : (h k : Option (End R g)) → Ordered a h → Ordered b k → Ordered (lower_excess {g = g} a k) (upper_excess {g = g} h b)
+    pub excess_ordered : (h k : Option (End R g)) → Ordered a h → Ordered b k → Ordered (lower_excess a k) (upper_excess h b)
     excess_ordered (Some x) (Some y) p q = rounded_ordered g _ 1 _ 1 (omega arith) (omega arith) (omega arith)
     excess_ordered (Some x) None p q = zero_ordered (rounded {g = g} Up (units x - units b) 1)
     excess_ordered None k p q = tt
 
-    pub quotient_ordered : (h k : Option (End R g)) → Ordered a h → Ordered b k → Ordered (lower_quotient {g = g} a k) (upper_quotient {g = g} h b)
+    pub quotient_ordered : (h k : Option (End R g)) → Ordered a h → Ordered b k → Ordered (lower_quotient a k) (upper_quotient h b)
     quotient_ordered (Some x) (Some y) p q =
         dite (dec_le 1 (units b))
         (λ some.
-        subst (λ (t : Bool). Ordered (or_zero {g = g} (divided {g = g} Down (units a) (units y))) (cond t None (rounded {g = g} Up (units x * g.BASE ^ g.BIAS) (units b)))) (sym (ne_eqb (units b) 0 (λ e. omega arith)))
+        subst (λ (t : Bool). Ordered (or_zero (divided {g = g} Down (units a) (units y))) (cond t None (rounded {g = g} Up (units x * g.BASE ^ g.BIAS) (units b)))) (sym (ne_eqb (units b) 0 (λ e. omega arith)))
         (subst (λ (t : Bool). Ordered (or_zero {g = g} (cond t None (rounded {g = g} Down (units a * g.BASE ^ g.BIAS) (units y)))) (rounded {g = g} Up (units x * g.BASE ^ g.BIAS) (units b))) (sym (ne_eqb (units y) 0 (λ e. omega arith)))
         (rounded_ordered g _ _ _ _ (omega arith) some (mul-le-mul (mul-le-mul_right (g.BASE ^ g.BIAS) p) q))))
         (λ none.
-        subst (λ (t : Bool). Ordered (or_zero {g = g} (divided {g = g} Down (units a) (units y))) (cond t None (rounded {g = g} Up (units x * g.BASE ^ g.BIAS) (units b)))) (sym (eq-eqb (units b) 0 (let l = lt_of_not-le none in omega arith))) tt)
-    quotient_ordered (Some x) None p q = zero_ordered (upper_quotient {g = g} (Some x) b)
+        subst (λ (t : Bool). Ordered (or_zero (divided {g = g} Down (units a) (units y))) (cond t None (rounded {g = g} Up (units x * g.BASE ^ g.BIAS) (units b)))) (sym (eq-eqb (units b) 0 (let l = lt_of_not-le none in omega arith))) tt)
+    quotient_ordered (Some x) None p q = zero_ordered (upper_quotient (Some x) b)
     quotient_ordered None k p q = tt
 
 module _ {R : Type 0} {g : Ghosts R} (a b : End R g) where

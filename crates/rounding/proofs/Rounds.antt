@@ -136,7 +136,7 @@ module _ {R : Type 0} (g : Ghosts R) (t : Rounding) (N u : ℕ) (pu : 0 < u) whe
       ap (λ x. cond x (Some (slight {g = g} t (cut t N u))) (tail (cut t N u) (surplus t g.BASE (g.FULL * g.BASE) (cut t N u) (cut t N u)))) (le-ltb _ _ w)
       ∙ ap (λ x. tail (cut t N u) x) s
 
-  pub rounded_full : (e : ℕ) → g.FULL ≤ cut t N u → Fills g.lawful t N u pu e → cut t N (u * g.BASE ^ e) < g.FULL * g.BASE → e ≤ 2 * g.BIAS → rounded {g = g} t N u ≡ Some (full_end {g = g} (cut t N (u * g.BASE ^ e)) e)
+  pub rounded_full : (e : ℕ) → g.FULL ≤ cut t N u → Fills g.lawful t N u pu e → cut t N (u * g.BASE ^ e) < g.FULL * g.BASE → e ≤ 2 * g.BIAS → rounded {g = g} t N u ≡ Some (full_end (cut t N (u * g.BASE ^ e)) e)
   rounded_full e w f h top =
       large w e (surplus_at g.lawful t N u pu e f h)
       ∙ ap (λ x. cond x None (Some (full_end {g = g} (cut t (cut t N u) (g.BASE ^ e)) e))) (le-ltb _ _ top)
@@ -148,7 +148,7 @@ module _ {R : Type 0} (g : Ghosts R) (t : Rounding) (N u : ℕ) (pu : 0 < u) whe
       ∙ ap (λ x. cond x None (Some (full_end {g = g} (cut t (cut t N u) (g.BASE ^ e)) e))) (lt-ltb _ _ top)
 
 module _ {R : Type 0} (g : Ghosts R) (N u : ℕ) (pu : 0 < u) where
-  small : (t : Rounding) → cut t N u < g.FULL → rounded {g = g} t N u ≡ Some (slight {g = g} t (cut t N u))
+  small : (t : Rounding) → cut t N u < g.FULL → rounded {g = g} t N u ≡ Some (slight t (cut t N u))
   unfolding rounded
   small t h =
       let n = cut t N u in
@@ -156,10 +156,10 @@ module _ {R : Type 0} (g : Ghosts R) (N u : ℕ) (pu : 0 < u) where
       ap (λ x. cond x (Some (slight {g = g} t n)) (cond (ltb (2 * g.BIAS) e) None (Some (full_end {g = g} (cut t n (g.BASE ^ e)) e)))) (lt-ltb _ _ h)
 
   -- below the least end above 0
-  pub rounded_slight_down : N < g.FULL * u → rounded {g = g} Down N u ≡ Some (zero_end {g = g})
+  pub rounded_slight_down : N < g.FULL * u → rounded {g = g} Down N u ≡ Some zero_end
   rounded_slight_down h = small Down (cut_below N u g.FULL pu h)
 
-  pub rounded_slight_up : 0 < N → N ≤ g.FULL * u → rounded {g = g} Up N u ≡ Some (full_end {g = g} g.FULL 0)
+  pub rounded_slight_up : 0 < N → N ≤ g.FULL * u → rounded {g = g} Up N u ≡ Some (full_end g.FULL 0)
   rounded_slight_up some h =
       let q = cut_most Up N u g.FULL pu h in
       let p = cut_some N u pu some in
@@ -171,18 +171,18 @@ module _ {R : Type 0} (g : Ghosts R) (N u : ℕ) (pu : 0 < u) where
       rounded_full g Up N u pu 0 (omega arith) (λ i l. absurd (omega arith)) (omega (arith, one)) (omega arith)
       ∙ ap (λ x. Some (full_end {g = g} x 0)) one)
 
-  pub rounded_none : (t : Rounding) → N ≡ 0 → rounded {g = g} t N u ≡ Some (zero_end {g = g})
+  pub rounded_none : (t : Rounding) → N ≡ 0 → rounded {g = g} t N u ≡ Some zero_end
   rounded_none t e = by t
     where
       none : (t : Rounding) → cut t N u ≡ 0
       none t = let q = cut_most t N u 0 pu (omega arith) in omega arith
 
-      by : (t : Rounding) → rounded {g = g} t N u ≡ Some (zero_end {g = g})
+      by : (t : Rounding) → rounded {g = g} t N u ≡ Some zero_end
       by Down = rounded_slight_down (let p = mul-pos {m = g.FULL} {n = u} (omega arith) pu in omega arith)
       by Up = small Up (omega (arith, none Up)) ∙ ap (λ x. Some (cond x (zero_end {g = g}) (full_end {g = g} g.FULL 0))) (eq-eqb _ _ (none Up))
 
 module _ {R : Type 0} (g : Ghosts R) (t : Rounding) (N u m e : ℕ) where
-  pub stands_full : Stands g.BASE g.FULL t N u m e → m < g.FULL * g.BASE → e ≤ 2 * g.BIAS → rounded {g = g} t N u ≡ Some (full_end {g = g} m e)
+  pub stands_full : Stands g.BASE g.FULL t N u m e → m < g.FULL * g.BASE → e ≤ 2 * g.BIAS → rounded {g = g} t N u ≡ Some (full_end m e)
   stands_full s h top =
       rounded_full g t N u s.some e s.large s.fills (subst (λ (x : ℕ). x < g.FULL * g.BASE) s.is h) top
       ∙ ap (λ x. Some (full_end {g = g} x e)) (sym s.is)

@@ -18,7 +18,8 @@ pub struct End<R: Radix> {
     ghost zero: { (digits ≡ 0 → exponent ≡ 0) },
 }
 
-// By hand, since a derive does not see through ghost fields that speak of a type parameter.
+// By hand, since a derive refuses ghost fields in a struct with a type parameter. There is no Ord: a derived one would
+// ask for an order of radices, and `at_most` says what the order means.
 impl<R: Radix> Clone for End<R> {
     ghost is_clone = { λ x y. x ≡ y };
 

@@ -21,6 +21,7 @@ const WHOLE_MOST: u64 = 1 << 62;
 
 const READ_MOST: u64 = 1_000_000_000_000_000_000;
 
+// Not by div_ceil: its remainder makes sums of decimals an eighth slower.
 fn cut_off(n: u64, d: u64, toward: Rounding) -> u64
     requires some { 0 < d }
     requires room { n + d < 2 ^ 64 }
@@ -223,13 +224,10 @@ impl<R: Radix> End<R> {
     pub fn at_most(self, other: Self) -> bool
         ensures { result ≡ nat_le (units self) (units other) }
     {
-        if self.exponent == other.exponent {
-            return self.digits <= other.digits;
-        }
-        self.exponent < other.exponent
+        (self.exponent, self.digits) <= (other.exponent, other.digits)
     }
 
-    // The same quantity with more digits, until they are full or the exponent is 0.
+    // The same quantity with more digits, until they are full or the exponent is 0. A `while`, since it ends by either.
     fn raised(m: u64, e: u64) -> (u64, u64)
         requires { m ≤ (R.FULL * R.BASE - 1) * R.BASE }
         ensures same { result.0 * R.BASE ^ result.1 ≡ m * R.BASE ^ e }
@@ -282,7 +280,8 @@ impl<R: Radix> End<R> {
         Self::placed(top * base - less, self.exponent as u64 - 1, toward)
     }
 
-    // The digits of `n` that a significand holds, and how many go before them.
+    // The digits of `n` that a significand holds, and how many go before them. A `while`, since no logarithm tells how
+    // many: rounding up may carry.
     fn shed(n: u64, toward: Rounding) -> (u64, u64)
         requires large { R.FULL * R.BASE ≤ n }
         requires room { n ≤ 2 ^ 62 }

@@ -1,4 +1,4 @@
-use Rattle.std.proofs.Common.{◌*◌, ◌/◌, ◌^◌, ◌<◌, ◌≤◌, sym, arith}
+use Rattle.std.proofs.Common.{◌/◌, ◌^◌, ◌<◌, ◌≤◌, sym}
 use Rattle.rounding.proofs.Ends.{base_pos}
 use Rattle.rounding.proofs.Drops.{more_digit, past_limit, under_limit, grown_past}
 use Rattle.rounding.proofs.end.End.grown.Goals as goal

@@ -1,7 +1,7 @@
 use Rattle.std.proofs.Common.{ℕ, ◌+◌, ◌*◌, ◌^◌, ◌<◌, ◌≤◌, Some, sym, ap, ◌∙◌, subst, add_assoc, arith}
 use Rattle.rounding.specs.Cut.{cut}
 use Rattle.rounding.specs.Placed.{Scales}
-use Rattle.rounding.specs.Rounded.{units, wider}
+use Rattle.rounding.specs.Rounded.{units}
 use Rattle.rounding.proofs.Ends.{power_pos}
 use Rattle.rounding.proofs.Rounds.{rounded_none}
 use Rattle.rounding.proofs.Scalings.{product_scales, product_most, product_least, scales_fit, no_product, power_next}

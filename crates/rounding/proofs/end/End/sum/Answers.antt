@@ -1,4 +1,4 @@
-use Rattle.std.proofs.Common.{◌≡◌, ◌+◌, ◌-◌, ◌*◌, ◌^◌, ◌≤◌, Some, sym, ap, ◌∙◌, mul-le-mul_left, arith}
+use Rattle.std.proofs.Common.{◌≡◌, ◌+◌, ◌-◌, ◌*◌, ◌^◌, Some, sym, ap, ◌∙◌, mul-le-mul_left, arith}
 use Rattle.rounding.specs.Cut.{cut}
 use Rattle.rounding.proofs.Rounds.{rounded_none}
 use Rattle.rounding.proofs.Sums.{sum_full, sum_none, sum_stands, rest_few}
