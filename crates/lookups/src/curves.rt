@@ -28,7 +28,7 @@ fn curve_value<K: CurveKind>(curve: &Curve<K>, at: Ratio) -> Ratio
 }
 
 impl Pressure {
-    // In the unit of a curve's places.
+    // In the unit of a curve's places; not a From, since the unit changes.
     fn hundredths(self) -> Ratio
         ensures { (result.num ≡ 100 * self.num) × (result.den ≡ self.den) }
     {
