@@ -4,14 +4,16 @@ use mathlib.Core.List.{List, map}
 use Prim.Native.Nat.{ℕ, ◌+◌, ◌*◌, ◌^◌, ◌≤◌, ◌<◌, max}
 use native.Mathlib.Nat.{mul-le-mul_right}
 use native.Mathlib.Omega.{arith}
-use lib.ListN.{get_or, length-map, get_or-map}
+use lib.ListN.{length, get_or, length-map, get_or-map}
 use Rattle.fraction.specs.Fraction.{Fraction, Same, whole, ◌⊕◌, ◌⊗◌, ◌⊘◌}
 use Rattle.lookups.specs.Cell.{mix, Finds}
 use Rattle.lookups.specs.Lookup.{curve_at}
 use Rattle.lookups.specs.declared.cell.Cell.{Cell}
+use Rattle.records.specs.declared.point.CurveRules.{CurveRules}
 use Rattle.records.specs.declared.point.Point.{Point}
-use Rattle.records.specs.Curve.{embedment_rules, shape_rules}
-use Rattle.records.specs.Lines.{EmbedmentCurve, ShapeCurve, embedment_points, shape_points}
+use Rattle.records.specs.declared.curve.Curve.{Curve}
+use Rattle.records.specs.declared.curve.CurveKind.{Ghosts}
+use Rattle.records.specs.Lines.{points_of}
 use Rattle.records.proofs.CurveLines.{nil, Kept, points_kept}
 use Rattle.lookups.proofs.Cells.{line_cong}
 use Rattle.lookups.proofs.Same.{same_by, same_trans, same_over_by}
@@ -35,7 +37,7 @@ pub record Fitting (y z A B : ℕ) : Type 0 where
   pub whole : A + B ≤ 100000 * 2 ^ 64
   pub sum : y * A + z * B ≤ 50000 * (A + B)
 
-pub fitting : (y z A B x d : ℕ) → y ≤ 50000 → z ≤ 50000 → A + B ≤ max 1 (x * d) → x ≤ 100000 → d < 2 ^ 64 → Fitting y z A B
+fitting : (y z A B x d : ℕ) → y ≤ 50000 → z ≤ 50000 → A + B ≤ max 1 (x * d) → x ≤ 100000 → d < 2 ^ 64 → Fitting y z A B
 fitting y z A B x d hy hz h l m =
     record { whole = weights_fit (A + B) d (weights_most 100000 x (A + B) d h l) m; sum = mean_most 50000 y z A B hy hz }
 
@@ -61,25 +63,29 @@ value_same ps x c f h =
     (f (map (λ p. whole p.y) ps) (length-map ps (λ p. whole p.y) ∙ sym (length-map ps (λ p. p.x))))
 
 -- what the lent points keep
-pub embedment_kept : (c : EmbedmentCurve) (ps : List Point) → ps ≡ embedment_points c → Kept embedment_rules ps
-embedment_kept c ps e = rw e (points_kept embedment_rules (embedment_points c) c.lawful)
+pub curve_kept : {K : Type 0} {g : Ghosts K} (c : Curve K g) (ps : List Point) → ps ≡ points_of c → Kept g.rules ps
+curve_kept {g = g} c ps e = rw e (points_kept g.rules (points_of c) c.lawful)
 
-pub shape_kept : (c : ShapeCurve) (ps : List Point) → ps ≡ shape_points c → Kept shape_rules ps
-shape_kept c ps e = rw e (points_kept shape_rules (shape_points c) c.lawful)
+-- so the numbers of a curve's value fit
+pub curve_fits : (rs : CurveRules) (ps : List Point) → Kept rs ps → (rs.reach ≤ 100000) × (rs.most ≤ 50000) → (c : Cell) → c.first < length ps → c.second < length ps → (d : ℕ) → c.after + c.before ≤ max 1 (get_or (map (λ p. p.x) ps) c.second 0 * d) → d < 2 ^ 64 → Fitting (get_or ps c.first nil).y (get_or ps c.second nil).y c.after c.before
+curve_fits rs ps k b c f s d l m =
+    let y = k.inside c.first f in
+    let z = k.inside c.second s in
+    fitting (get_or ps c.first nil).y (get_or ps c.second nil).y c.after c.before (get_or ps c.second nil).x d (omega (arith, y.3, b.1)) (omega (arith, z.3, b.1)) (rw (places_at ps c.second) at l) (omega (arith, z.1, b.0)) m
 
 -- hundredths
 pub hundred_times : (r p : Fraction) → r.num ≡ 100 * p.num → r.den ≡ p.den → Same r (p ⊗ whole 100)
 unfolding ◌⊗◌ whole
 hundred_times r p e f = same_by (rw (e, f) (omega arith))
 
-pub hundredth_times : (n d : ℕ) (h : 0 < d) (k : 0 < 100 * d) → Same (record { num = n; den = d; pos = h }) ((record { num = n; den = 100 * d; pos = k }) ⊗ whole 100)
+pub hundredth_times : (r s : Fraction) → r.num ≡ s.num → 100 * r.den ≡ s.den → Same r (s ⊗ whole 100)
 unfolding ◌⊗◌ whole
-hundredth_times n d h k = same_by (omega arith)
+hundredth_times r s e f = same_by (rw (e, ← f) (omega arith))
 
 pub over_hundred : (r x y : Fraction) → r.num ≡ x.num → r.den ≡ 100 * x.den → Same x y → Same r (y ⊘ whole 100)
 unfolding ◌⊘◌ whole
 over_hundred r x y e f h = same_trans (same_by (rw (e, f) (omega arith))) (same_over_by (whole 100) h)
 
--- the points are the curve's, and the operand is the same number
-pub curve_moved : (ps qs : List Point) (r x y : Fraction) → ps ≡ qs → Same x y → Same r (curve_at ps x) → Same r (curve_at qs y)
-curve_moved ps qs r x y e h k = rw (← e) (same_trans k (line_cong (map (λ p. p.x) ps) (map (λ p. whole p.y) ps) h))
+-- the operand is the same number
+pub curve_moved : (ps : List Point) (r x y : Fraction) → Same x y → Same r (curve_at ps x) → Same r (curve_at ps y)
+curve_moved ps r x y h k = same_trans k (line_cong (map (λ p. p.x) ps) (map (λ p. whole p.y) ps) h)

@@ -1,24 +1,24 @@
-ghost use Rattle.std.specs.Prelude.{◌≡◌, ◌*◌, ◌^◌, ◌<◌, ◌≤◌, length};
+ghost use Rattle.std.specs.Prelude.{◌≡◌, ◌*◌, ◌^◌, ◌<◌, ◌≤◌, max};
 ghost use Rattle.fraction.specs.Fraction.{Same};
 ghost use Rattle.fraction.specs.Ratio.{value};
-ghost use Rattle.lookups.specs.Cell.{Bounds, NoHigher, NoFurther};
 ghost use Rattle.lookups.specs.Lookup.{curve_at, modulus_at, shape_at};
 ghost use Rattle.lookups.specs.Operand.{pressure_of, stiffness_of, modulus_of};
-ghost use Rattle.records.specs.Lines.{embedment_points, shape_points};
+ghost use Rattle.records.specs.Lines.{points_of, embedment_points, shape_points};
 
 use crate::axes::cell_of;
 use crate::operand::{Modulus, Pressure, Stiffness};
 use fraction::Ratio;
-use records::{EmbedmentCurve, Point, ShapeCurve};
+use records::{Curve, CurveKind, EmbedmentCurve, ShapeCurve};
 
 // A curve's value, in the units of its points.
-fn curve_value(points: &[Point], at: Ratio) -> Ratio
-    requires some { 1 ≤ length points.now }
-    requires bounds { (NoHigher 50000 points.now) × (NoFurther 100000 points.now) }
-    requires at { at.den < 2 ^ 64 }
-    ensures value { Same (value result) (curve_at points.now (value at)) }
-    ensures bounds { Bounds points.now at result }
+fn curve_value<K: CurveKind>(curve: &Curve<K>, at: Ratio) -> Ratio
+    requires { at.den < 2 ^ 64 }
+    ensures value { Same (value result) (curve_at (points_of curve.now) (value at)) }
+    ensures least { K.rules.least * result.den ≤ result.num }
+    ensures most { result.num ≤ K.rules.most * result.den }
+    ensures fits { result.den ≤ max 1 (K.rules.reach * at.den) }
 {
+    let points = curve.points();
     let cell = cell_of(points, at);
     let sum = cell.weigh(points[cell.first].y as u128, points[cell.second].y as u128);
     Ratio {
@@ -28,7 +28,7 @@ fn curve_value(points: &[Point], at: Ratio) -> Ratio
 }
 
 impl Pressure {
-    // In the unit of a curve's places.
+    // In the unit of a curve's places; not a From, since the unit changes.
     fn hundredths(self) -> Ratio
         ensures { (result.num ≡ 100 * self.num) × (result.den ≡ self.den) }
     {
@@ -43,7 +43,7 @@ impl Pressure {
 pub fn embedment_modulus(curve: &EmbedmentCurve, pressure: Pressure) -> Modulus
     ensures { Same (modulus_of result) (modulus_at (embedment_points curve.now) (pressure_of pressure)) }
 {
-    let value = curve_value(curve.points(), pressure.hundredths());
+    let value = curve_value(curve, pressure.hundredths());
     Modulus {
         num: value.num as u64,
         den: value.den as u64,
@@ -68,10 +68,5 @@ pub fn shape_factor(curve: &ShapeCurve, stiffness: Stiffness) -> Ratio
     ensures most { result.num ≤ 10 * result.den }
     ensures fits { result.den ≤ 10000000 * stiffness.den }
 {
-    let at = Ratio {
-        num: stiffness.num,
-        den: stiffness.den as u128,
-    };
-    let value = curve_value(curve.points(), at);
-    hundredth(value)
+    hundredth(curve_value(curve, Ratio::from(stiffness)))
 }

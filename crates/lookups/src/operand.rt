@@ -1,4 +1,6 @@
-ghost use Rattle.std.specs.Prelude.{◌*◌, ◌<◌, ◌≤◌};
+ghost use Rattle.std.specs.Prelude.{◌≡◌, ◌*◌, ◌<◌, ◌≤◌};
+
+use fraction::Ratio;
 
 /// A pressure of `num / den` psi.
 #[derive(Clone, Copy)]
@@ -26,4 +28,28 @@ pub struct Modulus {
     ghost least: { 50 * den ≤ num },
     ghost most: { num ≤ 50000 * den },
     ghost fits: { den ≤ 69120000000000 },
+}
+
+/// In hundredths of psi.
+impl From<Stiffness> for Ratio {
+    ghost from_gives = { λ stiffness ratio. (ratio.num ≡ stiffness.num) × (ratio.den ≡ stiffness.den) };
+
+    fn from(stiffness: Stiffness) -> Self {
+        Ratio {
+            num: stiffness.num,
+            den: stiffness.den as u128,
+        }
+    }
+}
+
+/// In psi.
+impl From<Modulus> for Ratio {
+    ghost from_gives = { λ modulus ratio. (ratio.num ≡ modulus.num) × (ratio.den ≡ modulus.den) };
+
+    fn from(modulus: Modulus) -> Self {
+        Ratio {
+            num: modulus.num as u128,
+            den: modulus.den as u128,
+        }
+    }
 }

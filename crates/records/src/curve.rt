@@ -1,4 +1,5 @@
 ghost use Rattle.std.specs.Prelude.{◌≡◌, ◌≤◌, T, length};
+ghost use lib.Dec.{lit≤};
 ghost use Rattle.records.specs.Cause.{answered, unless};
 ghost use Rattle.records.specs.Curve.{curve_complete, curve_refusal, lawful_points, paired, embedment_rules, shape_rules};
 ghost use Rattle.records.specs.ShortList.{in_use};
@@ -18,6 +19,9 @@ pub trait CurveKind {
 
     fn rules() -> CurveRules
         ensures { result ≡ rules };
+
+    // No kind reaches further or higher, so that a value along it fits.
+    ghost bounded: { (rules.reach ≤ 100000) × (rules.most ≤ 50000) };
 }
 
 /// How the embedment stiffens: x is a pressure in hundredths of psi, y a modulus in psi.
@@ -26,6 +30,8 @@ pub struct Embedment {}
 
 impl CurveKind for Embedment {
     ghost rules = { embedment_rules };
+
+    ghost bounded = { (lit≤ tt, lit≤ tt) };
 
     fn rules() -> CurveRules {
         CurveRules {
@@ -43,6 +49,8 @@ pub struct Shape {}
 
 impl CurveKind for Shape {
     ghost rules = { shape_rules };
+
+    ghost bounded = { (lit≤ tt, lit≤ tt) };
 
     fn rules() -> CurveRules {
         CurveRules {

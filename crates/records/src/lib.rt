@@ -10,7 +10,7 @@ mod section;
 mod short_list;
 mod site;
 
-pub use curve::{EmbedmentCurve, ShapeCurve, curve_complete};
+pub use curve::{Curve, CurveKind, EmbedmentCurve, ShapeCurve, curve_complete};
 pub use fault::{Cause, Fault};
 pub use grid::{SupportGrid, grid_complete};
 pub use point::Point;

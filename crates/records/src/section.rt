@@ -30,6 +30,7 @@ pub struct Section {
     pub tension_limit: u64,
     /// Pipe stiffness, hundredths of psi; 0 where it is not given.
     pub stiffness: u64,
+    // Each order reads as one chain from its least to its most.
     ghost diameters: { (3000 ≤ inside) × (inside < centroid) × (centroid < outside) × (outside ≤ 120000) },
     ghost areas: { (100 ≤ effective_area) × (effective_area ≤ gross_area) × (gross_area ≤ 100000) },
     ghost moments: { (100 ≤ moment) × (moment ≤ 100000000) },

@@ -2,6 +2,7 @@ ghost use Rattle.std.specs.Prelude.{◌≡◌, ◌<◌, ◌≤◌, [], ◌∷◌
 
 use std::alloc::AllocError;
 
+// Of our own, since the records are Copy and an `ArrayVec` is not.
 /// A list of up to `N` items, in place.
 pub struct ShortList<T: Copy, const N: usize> {
     held: [T; N],

@@ -51,6 +51,7 @@ pub struct Site {
     /// Whether the trench walls stand.
     pub stable_walls: bool,
     pub live_load: LiveLoad,
+    // The two bounds of a range stand together.
     ghost fills: { (12001 ≤ fill) × (fill ≤ 1200000) },
     ghost trenches: { (1 ≤ trench) × (trench ≤ 1200000) },
     ghost waters: { water ≤ 1260000 },
