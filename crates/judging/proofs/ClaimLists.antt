@@ -1,6 +1,6 @@
 -- Which claims can be marked, and one claim more in a loop that marks.
-use Rattle.std.proofs.Common.{◌≡◌, ℕ, ◌+◌, ◌<◌, ◌≤◌, Bool, true, false, cond, ◌&&◌, leb, List, [], ◌∷◌, ◌++◌, length, get_or, take, drop, set, Some, None, Option, sym, refl, ◌∙◌, inl, inr, arith}
-use Rattle.std.proofs.lemmas.List.{take_more, take_more_set, drop_more, take_all, drop-set-lt}
+use Rattle.std.proofs.Common.{◌≡◌, ℕ, ◌+◌, ◌<◌, Bool, true, false, cond, ◌&&◌, leb, List, [], ◌∷◌, ◌++◌, length, get_or, take, drop, set, Some, None, Option, sym, refl, ◌∙◌, inl, inr, arith}
+use Rattle.std.proofs.lemmas.List.{take_more, take_more_set, drop_more, drop-set-lt}
 use Rattle.std.proofs.lemmas.Bool.{cases_eq, cases_Bool, ne_eqb, eq-eqb, leb-true, and_parts, and_from, and_left, and_right, true≢false}
 use Rattle.enclosure.specs.Model.{Model}
 use Rattle.equations.specs.Design.{Design}
@@ -160,8 +160,3 @@ module _ {E : Type 0} (m : Model E) (d : Design) where
         front = rw (take_more_set news i y h, take_more olds i x h') (push (take i olds) (take i news) (get_or olds i x) y s.front (rw same at p));
         back = cc;
       }
-
-  pub at_end : (olds news : List Claim) (i : ℕ) → length news ≤ i → length news ≡ length olds → SoFar olds news i → ClaimsMarked m d olds news
-  at_end olds news i h l s =
-      let k : length olds ≤ i = omega arith in
-      rw (take_all i olds k, take_all i news h) at s.front
