@@ -51,41 +51,7 @@ no_figure n h =
       | inl t ↦
           let d = numbered_none n figure_list h in
           let p = and_parts (leb 1 n) (leb n 8) t in
-          let a = leb-true 1 n p.0 in
-          let b = leb-true n 8 p.1 in
-          absurd (elim (cases_eq n 1) [
-            | inl e ↦ d.0 e
-            | inr e1 ↦
-                elim (cases_eq n 2) [
-                  | inl e ↦ d.1.0 e
-                  | inr e2 ↦
-                      elim (cases_eq n 3) [
-                        | inl e ↦ d.1.1.0 e
-                        | inr e3 ↦
-                            elim (cases_eq n 4) [
-                              | inl e ↦ d.1.1.1.0 e
-                              | inr e4 ↦
-                                  elim (cases_eq n 5) [
-                                    | inl e ↦ d.1.1.1.1.0 e
-                                    | inr e5 ↦
-                                        elim (cases_eq n 6) [
-                                          | inl e ↦ d.1.1.1.1.1.0 e
-                                          | inr e6 ↦
-                                              elim (cases_eq n 7) [
-                                                | inl e ↦ d.1.1.1.1.1.1.0 e
-                                                | inr e7 ↦
-                                                    elim (cases_eq n 8) [
-                                                      | inl e ↦ d.1.1.1.1.1.1.1.0 e
-                                                      | inr e8 ↦
-                                                          omega (arith, a, b, e1, e2, e3, e4, e5, e6, e7, e8)
-                                                    ]
-                                              ]
-                                        ]
-                                  ]
-                            ]
-                      ]
-                ]
-          ])
+          absurd (omega (arith, leb-true 1 n p.0, leb-true n 8 p.1, d.0, d.1.0, d.1.1.0, d.1.1.1.0, d.1.1.1.1.0, d.1.1.1.1.1.0, d.1.1.1.1.1.1.0, d.1.1.1.1.1.1.1.0))
       | inr t ↦ t
     ]
 
