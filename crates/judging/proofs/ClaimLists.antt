@@ -1,6 +1,6 @@
 -- Which claims can be marked, and one claim more in a loop that marks.
-use Rattle.std.proofs.Common.{◌≡◌, ℕ, ◌+◌, ◌<◌, ◌≤◌, Bool, true, false, cond, ◌&&◌, leb, List, [], ◌∷◌, ◌++◌, length, get_or, take, drop, set, Some, None, Option, sym, refl, ◌∙◌, inl, inr, arith}
-use Rattle.std.proofs.lemmas.List.{take_more, take_more_set, drop_more, take_all, drop-set-lt}
+use Rattle.std.proofs.Common.{◌≡◌, ℕ, ◌+◌, ◌<◌, Bool, true, false, cond, ◌&&◌, leb, List, [], ◌∷◌, ◌++◌, length, get_or, take, drop, set, Some, None, Option, sym, refl, ◌∙◌, inl, inr, arith}
+use Rattle.std.proofs.lemmas.List.{take_more, take_more_set, drop_more, drop-set-lt}
 use Rattle.std.proofs.lemmas.Bool.{cases_eq, cases_Bool, ne_eqb, eq-eqb, leb-true, and_parts, and_from, and_left, and_right, true≢false}
 use Rattle.enclosure.specs.Model.{Model}
 use Rattle.equations.specs.Design.{Design}
@@ -51,41 +51,7 @@ no_figure n h =
       | inl t ↦
           let d = numbered_none n figure_list h in
           let p = and_parts (leb 1 n) (leb n 8) t in
-          let a = leb-true 1 n p.0 in
-          let b = leb-true n 8 p.1 in
-          absurd (elim (cases_eq n 1) [
-            | inl e ↦ d.0 e
-            | inr e1 ↦
-                elim (cases_eq n 2) [
-                  | inl e ↦ d.1.0 e
-                  | inr e2 ↦
-                      elim (cases_eq n 3) [
-                        | inl e ↦ d.1.1.0 e
-                        | inr e3 ↦
-                            elim (cases_eq n 4) [
-                              | inl e ↦ d.1.1.1.0 e
-                              | inr e4 ↦
-                                  elim (cases_eq n 5) [
-                                    | inl e ↦ d.1.1.1.1.0 e
-                                    | inr e5 ↦
-                                        elim (cases_eq n 6) [
-                                          | inl e ↦ d.1.1.1.1.1.0 e
-                                          | inr e6 ↦
-                                              elim (cases_eq n 7) [
-                                                | inl e ↦ d.1.1.1.1.1.1.0 e
-                                                | inr e7 ↦
-                                                    elim (cases_eq n 8) [
-                                                      | inl e ↦ d.1.1.1.1.1.1.1.0 e
-                                                      | inr e8 ↦
-                                                          omega (arith, a, b, e1, e2, e3, e4, e5, e6, e7, e8)
-                                                    ]
-                                              ]
-                                        ]
-                                  ]
-                            ]
-                      ]
-                ]
-          ])
+          absurd (omega (arith, leb-true 1 n p.0, leb-true n 8 p.1, d.0, d.1.0, d.1.1.0, d.1.1.1.0, d.1.1.1.1.0, d.1.1.1.1.1.0, d.1.1.1.1.1.1.0, d.1.1.1.1.1.1.1.0))
       | inr t ↦ t
     ]
 
@@ -160,8 +126,3 @@ module _ {E : Type 0} (m : Model E) (d : Design) where
         front = rw (take_more_set news i y h, take_more olds i x h') (push (take i olds) (take i news) (get_or olds i x) y s.front (rw same at p));
         back = cc;
       }
-
-  pub at_end : (olds news : List Claim) (i : ℕ) → length news ≤ i → length news ≡ length olds → SoFar olds news i → ClaimsMarked m d olds news
-  at_end olds news i h l s =
-      let k : length olds ≤ i = omega arith in
-      rw (take_all i olds k, take_all i news h) at s.front

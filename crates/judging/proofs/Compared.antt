@@ -1,5 +1,5 @@
 -- What comparing the sides of each limit state tells.
-use Rattle.std.proofs.Common.{◌≡◌, ℕ, ◌+◌, ◌≤◌, Bool, not, T, leb, sym, refl, ap, ◌∙◌, subst, arith, leb→le, eq-eqb, ne_eqb}
+use Rattle.std.proofs.Common.{◌≡◌, ℕ, ◌+◌, ◌≤◌, Bool, not, T, leb, sym, ap, ◌∙◌, subst, arith, leb→le, ne_eqb}
 use Rattle.fraction.specs.Fraction.{Fraction, whole, ◌⊕◌, ◌⊗◌, ◌⊘◌}
 use Rattle.enclosure.specs.Model.{Model, Sound}
 use Rattle.enclosure.specs.Answer.{compared}
@@ -20,7 +20,6 @@ use Rattle.judging.specs.Judged.{Judged, Enclosure, Asked}
 use Rattle.quantities.specs.Known.{Known}
 use Rattle.quantities.specs.Worked.{WorkedKnown}
 use Rattle.judging.specs.declared.answer.State.{State}
-use Rattle.judging.specs.declared.answer.State.TheVariants.{NotApplied}
 use Rattle.quantities.specs.declared.worked.Worked.{Worked}
 use Rattle.quantities.proofs.Known.{leaf, known, known_along}
 use Rattle.quantities.proofs.Ranges.{limit_known}
@@ -92,6 +91,3 @@ module _ {E : Type 0} {m : Model E} where
 -- buoyancy is asked where there is water
 pub asked : (d : Design) (J : Type 0) (st : State) → (d.site.water ≡ 0 → ⊥) → J → Asked (buoyant d) J st
 asked d J st some j = subst (λ (b : Bool). Asked b J st) (sym (ap not (ne_eqb d.site.water 0 some))) j
-
-pub not_asked : (d : Design) (J : Type 0) → d.site.water ≡ 0 → Asked (buoyant d) J NotApplied
-not_asked d J none = subst (λ (b : Bool). Asked b J NotApplied) (sym (ap not (eq-eqb d.site.water 0 none))) refl

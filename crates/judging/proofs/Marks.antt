@@ -1,5 +1,5 @@
 -- What marking a claim tells, and the figures.
-use Rattle.std.proofs.Common.{◌≡◌, ℕ, ◌*◌, ◌^◌, ◌≤◌, ◌⊎◌, sym, refl, ap, ◌∙◌, subst, inl, inr, arith, lit≤}
+use Rattle.std.proofs.Common.{◌≡◌, ℕ, ◌*◌, ◌^◌, ◌≤◌, ◌⊎◌, T, sym, refl, ap, ◌∙◌, subst, inl, inr, arith, lit≤}
 use Rattle.std.proofs.Math.Logic.{⊎_map}
 use Rattle.fraction.specs.Fraction.{Fraction, whole, ◌⊘◌}
 use Rattle.enclosure.specs.Model.{Model, Sound}
@@ -11,6 +11,7 @@ use Rattle.enclosure.specs.declared.Comparison.TheVariants.{Yes, No, Unknown}
 use Rattle.enclosure.proofs.Comparisons.{said_yes, said_no, said_unknown}
 use Rattle.enclosure.proofs.Trees.{as_tree, field, closed}
 use Rattle.equations.specs.Design.{Design}
+use Rattle.equations.specs.Figures.{figure}
 use Rattle.judging.specs.Answers.{mark_number}
 use Rattle.quantities.specs.Formulas.{parts_of}
 use Rattle.judging.specs.Judged.{Marked, mark_of, low_edge, high_edge}
@@ -18,7 +19,7 @@ use Rattle.quantities.specs.Known.{Known}
 use Rattle.judging.specs.Figured.{FigureKnown, MillionthsKnown}
 use Rattle.equations.specs.declared.figure.Figure.{Figure}
 use Rattle.judging.specs.declared.answer.Mark.{Mark}
-use Rattle.quantities.proofs.Known.{leaf, known}
+use Rattle.quantities.proofs.Known.{leaf, known, meets}
 use Rattle.judging.proofs.Compared.{enclosure_of}
 
 -- which answers a mark comes from
@@ -70,9 +71,9 @@ module _ {E : Type 0} {m : Model E} (s : Sound m) where
         unmarked = λ r. ⊎_map (λ t. said_unknown m s 3 302 (low_edge c) x l e low q (lit≤ tt) (sym a ∙ t)) (λ t. said_unknown m s 302 3 x (high_edge c) e h q high (lit≤ tt) (sym b ∙ t)) (one_unknown u v (sym is ∙ ap mark_number r));
       }
 
-  -- a figure by another name of it
-  pub figure_at : (d : Design) {f g : Figure} {e : E} → f ≡ g → FigureKnown m d g e → FigureKnown m d f e
-  figure_at d {f} {g} {e} h i = subst (λ j. FigureKnown m d j e) (sym h) i
+  -- a quantity as a figure
+  pub figure_at : (d : Design) {n a b c k : ℕ} {f g : Figure} {e : E} → f ≡ g → (p : Known m n a b c k (figure g d) e) → T (meets (leaf p) 300 1 (10 ^ 10) (10 ^ 9) 1) → FigureKnown m d f e
+  figure_at d {f} {g} {e} h p t = subst (λ j. FigureKnown m d j e) (sym h) (known s (leaf p) 300 1 (10 ^ 10) (10 ^ 9) 1 t)
 
   pub millionths_known : (d : Design) (f : Figure) {e : E} (t r : E) → FigureKnown m d f e → t ≡ m.from_whole 1000000 → r ≡ m.product e t → MillionthsKnown m d f r
   millionths_known d f t r p i j = rw (j, i) (known s ((as_tree m).mul (leaf p) ((as_tree m).num 1000000)) 302 1 (10 ^ 4) (10 ^ 15) 1 tt)

@@ -1,9 +1,6 @@
 use Rattle.judging.specs.WorkedCase.{design}
-use Rattle.judging.proofs.Compared.{buoyancy_side, asked, not_asked}
+use Rattle.judging.proofs.Compared.{buoyancy_side, asked}
 use Rattle.judging.proofs.worked_case.WorkedCase.buoyancy.Goals as goal
-
-pub returns-then-self-eq0 : goal.returns-then-self-eq0
-returns-then-self-eq0 g c = not_asked (design c.args.self.now) _ c.if-self-eq0.true
 
 pub returns : goal.returns
 returns g c =
