@@ -9,11 +9,16 @@ abbrev Kept : Kind → Kind → Row → Register → Type 0
 Kept kind k l g = (k ≡ kind) ⊎ (row k (with_row kind l g) ≡ row k g)
 
 kept : (kind k : Kind) (l : Row) (g : Register) → Kept kind k l g
-kept Section k l g = elim k as (λ v. Kept Section v l g) [ Section ↦ inl refl | Embedment ↦ inr refl | Shape ↦ inr refl | Grid ↦ inr refl | Site ↦ inr refl ]
-kept Embedment k l g = elim k as (λ v. Kept Embedment v l g) [ Section ↦ inr refl | Embedment ↦ inl refl | Shape ↦ inr refl | Grid ↦ inr refl | Site ↦ inr refl ]
-kept Shape k l g = elim k as (λ v. Kept Shape v l g) [ Section ↦ inr refl | Embedment ↦ inr refl | Shape ↦ inl refl | Grid ↦ inr refl | Site ↦ inr refl ]
-kept Grid k l g = elim k as (λ v. Kept Grid v l g) [ Section ↦ inr refl | Embedment ↦ inr refl | Shape ↦ inr refl | Grid ↦ inl refl | Site ↦ inr refl ]
-kept Site k l g = elim k as (λ v. Kept Site v l g) [ Section ↦ inr refl | Embedment ↦ inr refl | Shape ↦ inr refl | Grid ↦ inr refl | Site ↦ inl refl ]
+kept Section Section l g = inl refl
+kept Section _ l g = inr refl
+kept Embedment Embedment l g = inl refl
+kept Embedment _ l g = inr refl
+kept Shape Shape l g = inl refl
+kept Shape _ l g = inr refl
+kept Grid Grid l g = inl refl
+kept Grid _ l g = inr refl
+kept Site Site l g = inl refl
+kept Site _ l g = inr refl
 
 same_row : (kind : Kind) (l : Row) (g : Register) → row kind (with_row kind l g) ≡ l
 same_row Section l g = refl

@@ -44,11 +44,11 @@ row Site g = g.sites
 
 -- with other places of a kind
 abbrev pub with_row : Kind → Row → Register → Register
-with_row Section l g = record { sections = l; embedments = g.embedments; shapes = g.shapes; grids = g.grids; sites = g.sites }
-with_row Embedment l g = record { sections = g.sections; embedments = l; shapes = g.shapes; grids = g.grids; sites = g.sites }
-with_row Shape l g = record { sections = g.sections; embedments = g.embedments; shapes = l; grids = g.grids; sites = g.sites }
-with_row Grid l g = record { sections = g.sections; embedments = g.embedments; shapes = g.shapes; grids = l; sites = g.sites }
-with_row Site l g = record { sections = g.sections; embedments = g.embedments; shapes = g.shapes; grids = g.grids; sites = l }
+with_row Section l g = record g { sections = l }
+with_row Embedment l g = record g { embedments = l }
+with_row Shape l g = record g { shapes = l }
+with_row Grid l g = record g { grids = l }
+with_row Site l g = record g { sites = l }
 
 -- what stands at a place of a row; places are counted from 1
 abbrev pub in_place : {R : Type 0} → List (Option R) → ℕ → Option R
