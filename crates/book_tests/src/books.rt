@@ -1,5 +1,6 @@
 use book::{Book, Kind};
-use records::{EmbedmentCurve, Fault, Section, ShapeCurve, Site, SupportGrid};
+use records::Cause::{Empty, Place, Writing};
+use records::{Cause, EmbedmentCurve, Fault, Section, ShapeCurve, Site, SupportGrid};
 use std::process::Abort;
 
 const SECTION: [u64; 11] = [
@@ -16,12 +17,9 @@ const SHALLOW: [u64; 10] = [180_000, 78_000, 96_000, 1_200, 1_360, 130, 150, 1_5
 
 const DEEP: [u64; 10] = [480_000, 78_000, 96_000, 1_200, 1_360, 130, 150, 1_500, 0, 0];
 
-// The number and the field of a refusal, 0 and 0 where the call is taken.
-fn told(answer: Result<(), Fault>) -> (u8, u64) {
-    match answer {
-        Ok(()) => (0, 0),
-        Err(fault) => (fault.cause.number(), fault.field),
-    }
+// The refusal of a cause in a field.
+fn refused(cause: Cause, field: u64) -> Result<(), Fault> {
+    Err(Fault { cause, field })
 }
 
 fn fill_at(book: &Book, place: u64) -> Option<u64> {
@@ -29,9 +27,9 @@ fn fill_at(book: &Book, place: u64) -> Option<u64> {
 }
 
 fn replaces(rt: &impl Abort, book: &mut Book) {
-    assert_eq!(rt; told(book.enter(Kind::Site, 96, &SHALLOW)), (0, 0));
+    assert_eq!(rt; book.enter(Kind::Site, 96, &SHALLOW), Ok(()));
     assert_eq!(rt; fill_at(book, 96), Some(180_000));
-    assert_eq!(rt; told(book.enter(Kind::Site, 96, &DEEP)), (0, 0));
+    assert_eq!(rt; book.enter(Kind::Site, 96, &DEEP), Ok(()));
     assert_eq!(rt; fill_at(book, 96), Some(480_000));
     assert_eq!(rt; fill_at(book, 95), None);
 }
@@ -44,12 +42,12 @@ fn an_entry_replaces(rt: HostRuntime) {
 }
 
 fn empties(rt: &impl Abort, book: &mut Book) {
-    assert_eq!(rt; told(book.enter(Kind::Site, 1, &SHALLOW)), (0, 0));
-    assert_eq!(rt; told(book.enter(Kind::Site, 2, &DEEP)), (0, 0));
-    assert_eq!(rt; told(book.withdraw(5, 1)), (0, 0));
+    assert_eq!(rt; book.enter(Kind::Site, 1, &SHALLOW), Ok(()));
+    assert_eq!(rt; book.enter(Kind::Site, 2, &DEEP), Ok(()));
+    assert_eq!(rt; book.withdraw(5, 1), Ok(()));
     assert_eq!(rt; fill_at(book, 1), None);
     assert_eq!(rt; fill_at(book, 2), Some(480_000));
-    assert_eq!(rt; told(book.withdraw(5, 1)), (5, 2));
+    assert_eq!(rt; book.withdraw(5, 1), refused(Empty, 2));
 }
 
 #[test]
@@ -60,16 +58,16 @@ fn a_withdrawal_empties(rt: HostRuntime) {
 }
 
 fn refuses(rt: &impl Abort, book: &mut Book) {
-    assert_eq!(rt; told(book.enter(Kind::Site, 1, &SHALLOW)), (0, 0));
-    assert_eq!(rt; told(book.enter(Kind::Site, 0, &DEEP)), (1, 1));
-    assert_eq!(rt; told(book.enter(Kind::Site, 97, &DEEP)), (1, 1));
-    assert_eq!(rt; told(book.enter(Kind::Site, 97, &SECTION)), (1, 1));
-    assert_eq!(rt; told(book.enter(Kind::Site, 1, &SECTION)), (11, 0));
-    assert_eq!(rt; told(book.enter(Kind::Grid, 5, &GRID)), (1, 1));
-    assert_eq!(rt; told(book.withdraw(0, 1)), (1, 1));
-    assert_eq!(rt; told(book.withdraw(6, 97)), (1, 1));
-    assert_eq!(rt; told(book.withdraw(5, 97)), (1, 2));
-    assert_eq!(rt; told(book.withdraw(1, 1)), (5, 2));
+    assert_eq!(rt; book.enter(Kind::Site, 1, &SHALLOW), Ok(()));
+    assert_eq!(rt; book.enter(Kind::Site, 0, &DEEP), refused(Place, 1));
+    assert_eq!(rt; book.enter(Kind::Site, 97, &DEEP), refused(Place, 1));
+    assert_eq!(rt; book.enter(Kind::Site, 97, &SECTION), refused(Place, 1));
+    assert_eq!(rt; book.enter(Kind::Site, 1, &SECTION), refused(Writing, 0));
+    assert_eq!(rt; book.enter(Kind::Grid, 5, &GRID), refused(Place, 1));
+    assert_eq!(rt; book.withdraw(0, 1), refused(Place, 1));
+    assert_eq!(rt; book.withdraw(6, 97), refused(Place, 1));
+    assert_eq!(rt; book.withdraw(5, 97), refused(Place, 2));
+    assert_eq!(rt; book.withdraw(1, 1), refused(Empty, 2));
     assert_eq!(rt; fill_at(book, 1), Some(180_000));
 }
 
@@ -93,13 +91,13 @@ fn standing(book: &Book, place: u64) -> [bool; 5] {
 
 fn holds_all(rt: &impl Abort, book: &mut Book) {
     assert_eq!(rt; standing(book, 4), [false, false, false, false, false]);
-    assert_eq!(rt; told(book.enter(Kind::Section, 4, &SECTION)), (0, 0));
-    assert_eq!(rt; told(book.enter(Kind::Embedment, 4, &EMBEDMENT)), (0, 0));
-    assert_eq!(rt; told(book.enter(Kind::Shape, 4, &SHAPE)), (0, 0));
-    assert_eq!(rt; told(book.enter(Kind::Grid, 4, &GRID)), (0, 0));
-    assert_eq!(rt; told(book.enter(Kind::Site, 4, &DEEP)), (0, 0));
+    assert_eq!(rt; book.enter(Kind::Section, 4, &SECTION), Ok(()));
+    assert_eq!(rt; book.enter(Kind::Embedment, 4, &EMBEDMENT), Ok(()));
+    assert_eq!(rt; book.enter(Kind::Shape, 4, &SHAPE), Ok(()));
+    assert_eq!(rt; book.enter(Kind::Grid, 4, &GRID), Ok(()));
+    assert_eq!(rt; book.enter(Kind::Site, 4, &DEEP), Ok(()));
     assert_eq!(rt; standing(book, 4), [true, true, true, true, true]);
-    assert_eq!(rt; told(book.withdraw(3, 4)), (0, 0));
+    assert_eq!(rt; book.withdraw(3, 4), Ok(()));
     assert_eq!(rt; standing(book, 4), [true, true, false, true, true]);
 }
 

@@ -12,7 +12,7 @@ use enclosure::{Arithmetic, ReadOut, wide};
 use fraction::Ratio;
 use judging::{Figure, figure};
 use quantities::Case;
-use records::{EmbedmentCurve, Fault, Section, ShapeCurve, Site, SupportGrid};
+use records::{EmbedmentCurve, Section, ShapeCurve, Site, SupportGrid};
 use std::io;
 
 /// The example's site and pipe, in mil, tenths of pcf and hundredths.
@@ -135,26 +135,7 @@ fn print_figure(
     println!(rt; "  printed: {whole}.{hundredths:02}; within 2 in 100: {verdict}")
 }
 
-/// Why the program stops early.
-#[derive(Debug, Drop)]
-enum Stop {
-    Refused(Fault),
-    Output(io::Error),
-}
-
-impl From<Fault> for Stop {
-    fn from(fault: Fault) -> Self {
-        Stop::Refused(fault)
-    }
-}
-
-impl From<io::Error> for Stop {
-    fn from(error: io::Error) -> Self {
-        Stop::Output(error)
-    }
-}
-
-fn print_figures(rt: &impl Print) -> Result<(), Stop> {
+fn print_figures(rt: &impl Print) -> anyhow::Result<()> {
     let section = Section::new(&[
         36_000, 38_500, OUTSIDE, 6_500, 5_400, 1_520_000, 175_000, 28_000, 370, 250, 4_000,
     ])?;
@@ -186,7 +167,7 @@ fn print_figures(rt: &impl Print) -> Result<(), Stop> {
     Ok(())
 }
 
-fn main(rt: HostRuntime) -> Result<(), Stop> {
+fn main(rt: HostRuntime) -> anyhow::Result<()> {
     println!(rt; "A 36-inch polypropylene storm drain under 15 feet of fill")?;
     println!(rt; "  fill {FILL} mil, outside diameter {OUTSIDE} mil")?;
     println!(rt; "  water {WATER} mil above the springline, its depth times {WATER_FACTOR}/100")?;
