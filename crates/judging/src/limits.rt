@@ -73,7 +73,7 @@ impl<'a, A: Arithmetic> WorkedCase<'a, A> {
         state(strain, allowed)
     }
 
-    fn flexible(&self) -> State
+    fn flexibility(&self) -> State
         requires { IsWorkedOut A.model self.now }
         ensures { Judged A.model (left LimitState.Flexibility (design self.now)) (right LimitState.Flexibility (design self.now)) result }
     {
@@ -93,6 +93,38 @@ impl<'a, A: Arithmetic> WorkedCase<'a, A> {
         let held = hold_down(&self.worked);
         state(lift, held)
     }
+
+    fn sheet(&self) -> Sheet
+        requires { IsWorkedOut A.model self.now }
+        ensures { SheetJudged A.model (design self.now) result }
+    {
+        let thrust = self.thrust();
+        let net_tension = self.net_tension();
+        let combined = self.combined();
+        let deflection = self.deflection();
+        let buckling = self.buckling();
+        let flexibility = self.flexibility();
+        let buoyancy = self.buoyancy();
+        let verdict = verdict(&[
+            (LimitState::Thrust, thrust),
+            (LimitState::NetTension, net_tension),
+            (LimitState::Combined, combined),
+            (LimitState::Deflection, deflection),
+            (LimitState::Buckling, buckling),
+            (LimitState::Flexibility, flexibility),
+            (LimitState::Buoyancy, buoyancy),
+        ]);
+        Sheet {
+            thrust,
+            net_tension,
+            combined,
+            deflection,
+            buckling,
+            flexibility,
+            buoyancy,
+            verdict,
+        }
+    }
 }
 
 /// The states of the seven limit states, and the verdict.
@@ -100,31 +132,5 @@ pub fn judge<A: Arithmetic>(case: &Case) -> Sheet
     ensures states { SheetJudged A.model (design_of case.now) result }
     ensures verdict { Means A.model.fineness (design_of case.now) result.verdict }
 {
-    let worked = WorkedCase::<A>::of(case);
-    let thrust = worked.thrust();
-    let net_tension = worked.net_tension();
-    let combined = worked.combined();
-    let deflection = worked.deflection();
-    let buckling = worked.buckling();
-    let flexibility = worked.flexible();
-    let buoyancy = worked.buoyancy();
-    let verdict = verdict(&[
-        (LimitState::Thrust, thrust),
-        (LimitState::NetTension, net_tension),
-        (LimitState::Combined, combined),
-        (LimitState::Deflection, deflection),
-        (LimitState::Buckling, buckling),
-        (LimitState::Flexibility, flexibility),
-        (LimitState::Buoyancy, buoyancy),
-    ]);
-    Sheet {
-        thrust,
-        net_tension,
-        combined,
-        deflection,
-        buckling,
-        flexibility,
-        buoyancy,
-        verdict,
-    }
+    WorkedCase::<A>::of(case).sheet()
 }

@@ -1,6 +1,6 @@
 use Rattle.judging.specs.WorkedCase.{design}
 use Rattle.judging.proofs.Compared.{flexibility_side}
-use Rattle.judging.proofs.worked_case.WorkedCase.flexible.Goals as goal
+use Rattle.judging.proofs.worked_case.WorkedCase.flexibility.Goals as goal
 
 pub returns : goal.returns
 returns g c =
