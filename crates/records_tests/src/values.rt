@@ -3,17 +3,10 @@ use lookups::{Modulus, Pressure, Stiffness, embedment_modulus, shape_factor, sup
 use records::{EmbedmentCurve, Section, ShapeCurve, Site, SupportGrid};
 use std::test::Fail;
 
-fn as_ratio(modulus: Modulus) -> Ratio {
-    Ratio {
-        num: modulus.num as u128,
-        den: modulus.den as u128,
-    }
-}
-
 #[test]
 fn moduli(rt: HostRuntime) -> Result<(), Fail> {
     let curve = EmbedmentCurve::new(&[2, 1_000, 1_625, 2_000, 1_800])?;
-    let at = |pressure: Pressure| Some(as_ratio(embedment_modulus(&curve, pressure)));
+    let at = |pressure: Pressure| Some(Ratio::from(embedment_modulus(&curve, pressure)));
     assert_eq!(rt; at(Pressure { num: 1, den: 3 }), Ratio::new(1_625, 1));
     assert_eq!(rt; at(Pressure { num: 10, den: 1 }), Ratio::new(1_625, 1));
     assert_eq!(rt; at(Pressure { num: 15, den: 1 }), Ratio::new(17_125, 10));
