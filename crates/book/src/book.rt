@@ -11,6 +11,7 @@ use crate::shelf;
 use records::{EmbedmentCurve, Fault, Section, ShapeCurve, Site, SupportGrid};
 
 /// The records that stand at the places.
+// Arrays, and no maps: an entry can then not run out of memory.
 pub struct Book {
     pub(crate) sections: [Option<Section>; 24],
     pub(crate) embedments: [Option<EmbedmentCurve>; 24],
@@ -52,7 +53,7 @@ impl Book {
         }
     }
 
-    /// Empties a place of the kind of this number.
+    /// Empties a place of the kind of this number; one that is no kind's is refused.
     pub fn withdraw(&mut self, kind: u64, place: u64) -> Result<(), Fault>
         ensures answer { refused result ≡ withdrawal_refusal (numbered kind) place (register_of self.old) }
         ensures held { MatchResult result

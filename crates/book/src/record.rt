@@ -25,6 +25,7 @@ pub trait Record: Copy {
         ensures { lines line result.now ≡ row kind (register_of book.now) };
 }
 
+// Each kind of record names its own maker and its own shelf, so each has its impl.
 impl Record for Section {
     ghost kind = { SectionKind };
 

@@ -47,6 +47,7 @@ impl<R: Radix> Arithmetic for Enclosure<R> {
         Self::spanning(End::whole(n, Down), End::whole(n, Up))
     }
 
+    // What two bodies below share is the order of the ends; one over the operation would hide which ends it takes.
     fn add(self, other: Self) -> Self {
         Self::spanning(
             self.lower.add(other.lower, Down),

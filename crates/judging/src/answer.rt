@@ -59,6 +59,7 @@ pub enum Verdict {
 }
 
 /// What a claim earns.
+// An Option<bool> has this shape, but would not say which of its three values is which.
 #[derive(Clone, Copy, PartialEq, Eq, Debug)]
 pub enum Mark {
     Right = 1,

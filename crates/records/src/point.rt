@@ -9,6 +9,7 @@ pub struct Point {
 }
 
 /// What is asked of a point and the next.
+// An enum, and no closure: the rules of a kind of curve hold it, and the definitions name it.
 #[derive(Clone, Copy)]
 pub enum Rule {
     /// Further on, and no lower.

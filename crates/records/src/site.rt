@@ -8,6 +8,7 @@ use crate::fault::Fault;
 use crate::fields::{Allowed, in_ranges};
 
 /// What rolls over the pipe.
+// Not an Option: none is one of the loads that a line can state.
 #[derive(Clone, Copy, PartialEq, Eq, Debug)]
 pub enum LiveLoad {
     None,

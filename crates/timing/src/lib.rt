@@ -42,7 +42,7 @@ fn wholes<A: ReadOut>(turns: u64) -> u64 {
     x.ceiling().unwrap_or(0)
 }
 
-// C calls a function of its own for each radix.
+// C has no type parameter, so it calls a function for each radix.
 #[unsafe(no_mangle)]
 pub extern "C" fn binary_products(turns: u64) -> u64 {
     products::<Binary>(turns)
