@@ -26,6 +26,15 @@ fn fill_at(book: &Book, place: u64) -> Option<u64> {
     Some(book.get::<Site>(place)?.fill)
 }
 
+// A book must be let go, so each test runs on one that this function makes and lets go.
+fn on_new_book<F: FnOnce(&mut Book)>(check: F)
+    requires { F.IsAlwaysCallable check }
+{
+    let mut book = Book::new();
+    check(&mut book);
+    book.discard();
+}
+
 fn replaces(rt: &impl Abort, book: &mut Book) {
     assert_eq!(rt; book.enter(Kind::Site, 96, &SHALLOW), Ok(()));
     assert_eq!(rt; fill_at(book, 96), Some(180_000));
@@ -36,9 +45,7 @@ fn replaces(rt: &impl Abort, book: &mut Book) {
 
 #[test]
 fn an_entry_replaces(rt: HostRuntime) {
-    let mut book = Book::new();
-    replaces(&rt, &mut book);
-    book.discard();
+    on_new_book(|book| replaces(&rt, book));
 }
 
 fn empties(rt: &impl Abort, book: &mut Book) {
@@ -52,9 +59,7 @@ fn empties(rt: &impl Abort, book: &mut Book) {
 
 #[test]
 fn a_withdrawal_empties(rt: HostRuntime) {
-    let mut book = Book::new();
-    empties(&rt, &mut book);
-    book.discard();
+    on_new_book(|book| empties(&rt, book));
 }
 
 fn refuses(rt: &impl Abort, book: &mut Book) {
@@ -73,9 +78,7 @@ fn refuses(rt: &impl Abort, book: &mut Book) {
 
 #[test]
 fn a_refusal_changes_nothing(rt: HostRuntime) {
-    let mut book = Book::new();
-    refuses(&rt, &mut book);
-    book.discard();
+    on_new_book(|book| refuses(&rt, book));
 }
 
 // Which kinds have a record at the place.
@@ -103,7 +106,5 @@ fn holds_all(rt: &impl Abort, book: &mut Book) {
 
 #[test]
 fn kinds_stand_side_by_side(rt: HostRuntime) {
-    let mut book = Book::new();
-    holds_all(&rt, &mut book);
-    book.discard();
+    on_new_book(|book| holds_all(&rt, book));
 }

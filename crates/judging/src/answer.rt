@@ -1,6 +1,6 @@
 ghost use Rattle.std.specs.Prelude.{◌≡◌};
 ghost use Rattle.enclosure.specs.Answer.{number};
-ghost use Rattle.judging.specs.Answers.{state_number, mark_number, failing, unsettled};
+ghost use Rattle.judging.specs.Answers.{state_number, mark_number};
 
 use enclosure::Comparison;
 use equations::LimitState;
@@ -21,18 +21,6 @@ impl State {
         ensures { result ≡ state_number self }
     {
         self as u8
-    }
-
-    pub(crate) fn fails(self) -> bool
-        ensures { result ≡ failing self }
-    {
-        self == State::Fails
-    }
-
-    pub(crate) fn is_unsettled(self) -> bool
-        ensures { result ≡ unsettled self }
-    {
-        self == State::Undecided
     }
 }
 

@@ -8,10 +8,10 @@ use equations::LimitState;
 pub(crate) fn verdict(states: &[(LimitState, State)]) -> Verdict
     ensures { result ≡ decided (first_failing (map (λ p. p.0) states.now) (map (λ p. p.1) states.now)) (any_unsettled (map (λ p. p.1) states.now)) }
 {
-    if let Some((limit, _)) = states.iter().find(|(_, state)| state.fails()) {
+    if let Some((limit, _)) = states.iter().find(|(_, state)| *state == State::Fails) {
         return Verdict::Rejected(*limit);
     }
-    if states.iter().any(|(_, state)| state.is_unsettled()) {
+    if states.iter().any(|(_, state)| *state == State::Undecided) {
         return Verdict::Undecided;
     }
     Verdict::Accepted

@@ -1,4 +1,4 @@
-use crate::refusals::{Edge, meets, put, refused};
+use crate::refusals::{Edge, check_edges, refused};
 use records::Cause::{Order, Range, Steep, Writing};
 use records::{EmbedmentCurve, ShapeCurve};
 
@@ -66,20 +66,22 @@ const SHAPE_EDGES: [Edge; 26] = [
 
 #[test]
 fn embedment_edges(rt: HostRuntime) {
-    for (place, value, cause) in EMBEDMENT_EDGES {
-        let mut fields = EMBEDMENT;
-        put(&mut fields, place, value);
-        meets(&rt, EmbedmentCurve::new(&fields).err(), place, cause);
-    }
+    check_edges(
+        &rt,
+        EMBEDMENT,
+        &EMBEDMENT_EDGES,
+        |fields| EmbedmentCurve::new(fields).err(),
+    );
 }
 
 #[test]
 fn shape_edges(rt: HostRuntime) {
-    for (place, value, cause) in SHAPE_EDGES {
-        let mut fields = SHAPE;
-        put(&mut fields, place, value);
-        meets(&rt, ShapeCurve::new(&fields).err(), place, cause);
-    }
+    check_edges(
+        &rt,
+        SHAPE,
+        &SHAPE_EDGES,
+        |fields| ShapeCurve::new(fields).err(),
+    );
 }
 
 #[test]

@@ -1,4 +1,4 @@
-use crate::refusals::{Edge, meets, put, refused};
+use crate::refusals::{Edge, check_edges, refused};
 use records::Cause::{
     Claim, Empty, Figure, Length, Order, Part, Place, Range, Steep, Tally, Trailer, Trench, Water,
     Writing,
@@ -119,20 +119,17 @@ const SITE_EDGES: [Edge; 42] = [
 
 #[test]
 fn section_edges(rt: HostRuntime) {
-    for (place, value, cause) in SECTION_EDGES {
-        let mut fields = SECTION;
-        put(&mut fields, place, value);
-        meets(&rt, Section::new(&fields).err(), place, cause);
-    }
+    check_edges(
+        &rt,
+        SECTION,
+        &SECTION_EDGES,
+        |fields| Section::new(fields).err(),
+    );
 }
 
 #[test]
 fn site_edges(rt: HostRuntime) {
-    for (place, value, cause) in SITE_EDGES {
-        let mut fields = SITE;
-        put(&mut fields, place, value);
-        meets(&rt, Site::new(&fields).err(), place, cause);
-    }
+    check_edges(&rt, SITE, &SITE_EDGES, |fields| Site::new(fields).err());
 }
 
 #[test]

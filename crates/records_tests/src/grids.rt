@@ -1,4 +1,4 @@
-use crate::refusals::{Edge, meets, put, refused};
+use crate::refusals::{Edge, check_edges, refused};
 use records::Cause::{Order, Range, Steep, Writing};
 use records::SupportGrid;
 
@@ -61,11 +61,7 @@ const EDGES: [Edge; 52] = [
 
 #[test]
 fn edges(rt: HostRuntime) {
-    for (place, value, cause) in EDGES {
-        let mut fields = GRID;
-        put(&mut fields, place, value);
-        meets(&rt, SupportGrid::new(&fields).err(), place, cause);
-    }
+    check_edges(&rt, GRID, &EDGES, |fields| SupportGrid::new(fields).err());
 }
 
 #[test]

@@ -9,19 +9,25 @@ pub fn refused(cause: Cause, field: u64) -> Option<Fault> {
     Some(Fault { cause, field })
 }
 
-/// Puts the value into the line.
-pub fn put(fields: &mut [u64], place: usize, value: u64) {
-    if let Some(field) = fields.get_mut(place) {
-        *field = value;
+/// Each edge of the line is met: a field out of its range is named, and no other cause names one.
+pub fn check_edges<const N: usize, F: Fn(&[u64]) -> Option<Fault>>(
+    rt: &impl Abort,
+    line: [u64; N],
+    edges: &[Edge],
+    refusal: F,
+)
+    requires { F.IsAlwaysCallable refusal }
+{
+    for (place, value, cause) in edges {
+        let mut fields = line;
+        if let Some(field) = fields.get_mut(*place) {
+            *field = *value;
+        }
+        let field = if *cause == Some(Cause::Range) {
+            (*place as u64).saturating_add(2)
+        } else {
+            0
+        };
+        assert_eq!(rt; refusal(&fields), cause.map(|cause| Fault { cause, field }));
     }
-}
-
-/// The refusal is of this cause: a field out of its range is named, and no other cause names one.
-pub fn meets(rt: &impl Abort, refusal: Option<Fault>, place: usize, cause: Option<Cause>) {
-    let field = if cause == Some(Cause::Range) {
-        (place as u64).saturating_add(2)
-    } else {
-        0
-    };
-    assert_eq!(rt; refusal, cause.map(|cause| Fault { cause, field }));
 }
