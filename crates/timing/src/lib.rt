@@ -91,16 +91,15 @@ fn accepted<A: Arithmetic>(turns: u64) -> Result<u64, Fault> {
     let embedment = EmbedmentCurve::new(&[2, 1_000, 1_625, 2_000, 1_800])?;
     let shape = ShapeCurve::new(&[2, 3_600, 350, 7_200, 280])?;
     let grid = SupportGrid::new(&[2, 2, 175, 200, 800, 1_000, 900, 930, 1_000, 1_000])?;
-    let mut count = 0u64;
-    for i in 0..turns {
-        let fill = 60_000 + (i & 0x3ffff);
+    let verdict = |fill: u64| -> Result<Verdict, Fault> {
         let site = Site::new(&[fill, 78_000, 50_000, 1_200, 1_360, 130, 150, 1_500, 0, 1])?;
         let case = Case::new(section, &embedment, &shape, &grid, site)?;
-        if judge::<A>(&case).verdict == Verdict::Accepted {
-            count = count.wrapping_add(1);
-        }
-    }
-    Ok(count)
+        Ok(judge::<A>(&case).verdict)
+    };
+    let count = (0..turns)
+        .filter(|i| verdict(60_000 + (i & 0x3ffff)) == Ok(Verdict::Accepted))
+        .count();
+    Ok(count as u64)
 }
 
 #[unsafe(no_mangle)]
