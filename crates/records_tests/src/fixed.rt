@@ -3,7 +3,8 @@ use records::Cause::{
     Claim, Empty, Figure, Length, Order, Part, Place, Range, Steep, Tally, Trailer, Trench, Water,
     Writing,
 };
-use records::{Section, Site};
+use records::{Fault, Section, Site};
+use std::test::Fail;
 
 const SECTION: [u64; 11] = [
     36_000, 38_500, 41_000, 6_500, 5_400, 1_520_000, 175_000, 28_000, 370, 250, 4_000,
@@ -162,6 +163,17 @@ fn order_of_causes(rt: HostRuntime) {
         Site::new(&[180_000, 0, 0, 1_200, 1_360, 130, 0, 1_500, 2, 2]).err(),
         refused(Range, 3)
     );
+}
+
+#[test]
+fn a_fault_is_printed(rt: HostRuntime) -> Result<(), Fail> {
+    let fault = Fault {
+        cause: Range,
+        field: 12,
+    };
+    let text = format!(in rt.alloc(); "{fault}")?;
+    assert_eq!(rt; text.as_str(), "cause 2 in field 12");
+    Ok(())
 }
 
 #[test]
