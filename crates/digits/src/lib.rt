@@ -2,6 +2,7 @@
 #![tactic(auto)]
 
 mod radices;
+// Named enclosure, it would hide the library.
 mod span;
 
 ghost use Rattle.std.specs.Prelude.{◌≡◌, refl};
