@@ -4,7 +4,7 @@ use Rattle.book.specs.declared.kind.Kind.{Kind}
 use Rattle.calls.specs.declared.call.Call.{Call}
 use Rattle.calls.specs.declared.call.Call.TheVariants.{Enter, Withdraw, Open, Judge, Read, Mark, Tallies, Close}
 use Rattle.calls.specs.declared.call.CasePlaces.{CasePlaces}
-use Rattle.judging.specs.declared.claims.Claim.{Claim}
+use Rattle.judging.specs.declared.claim.Claim.{Claim}
 
 pub data Asked (R : Type 0) : Type 0 where
   -- the kind of a record, its place and its fields

@@ -2,15 +2,15 @@
 #![tactic(auto)]
 
 mod radices;
+// Named enclosure, it would hide the library.
 mod span;
 
 ghost use Rattle.std.specs.Prelude.{◌≡◌, refl};
-ghost use Rattle.enclosure.specs.Answer.{ends_by, ends_below};
-ghost use Rattle.rounding.specs.Pairs.{larger_end, smaller_end, smaller_upper};
+ghost use Rattle.rounding.specs.Pairs.{larger_end, smaller_end};
 ghost use Rattle.rounding.specs.Rounded.{or_zero, Ordered};
 ghost use Rattle.digits.specs.Canonical.{EndsDecide};
 ghost use Rattle.digits.specs.Laws.{sound_of};
-ghost use Rattle.digits.specs.Meaning.{bound, model_of, value};
+ghost use Rattle.digits.specs.Meaning.{model_of};
 
 use enclosure::{Arithmetic, Comparison, ReadOut};
 pub use radices::{Binary, Decimal, Ten, Two};

@@ -1,5 +1,6 @@
 -- What the answer on two close enclosures says of the exact fractions.
 use Rattle.std.proofs.Common.{◌≡◌, ℕ, ◌+◌, ◌*◌, ◌≤◌, Bool, true, false, cond, ltb, leb, sym, refl, ap, ◌∙◌, arith, ltb-false, ltb-true, leb-false, leb-true}
+use Rattle.std.proofs.lemmas.Bool.{true≢false}
 use Rattle.fraction.specs.Fraction.{Fraction, ◌≼◌, ◌≺◌}
 use Rattle.fraction.specs.Graded.{Band}
 use Rattle.fraction.proofs.Order.{le_trans, le_lt, lt_le, le_of_lt}
@@ -8,25 +9,27 @@ use Rattle.enclosure.specs.Model.{Model, Sound, Upper}
 use Rattle.enclosure.specs.Answer.{ends_by, ends_below, compared}
 use Rattle.enclosure.specs.Close.{Close}
 use Rattle.enclosure.specs.Theorems.{ComparisonsTell}
+use Rattle.enclosure.specs.declared.Comparison.{Comparison}
+use Rattle.enclosure.specs.declared.Comparison.TheVariants.{Yes, No, Unknown}
 use Rattle.enclosure.proofs.Closeness.{fine_positive}
 
 -- which tests an answer comes from
-abbrev answer_of : Bool → Bool → ℕ
-answer_of a b = cond a 1 (cond b 2 3)
+abbrev answer_of : Bool → Bool → Comparison
+answer_of a b = cond a Yes (cond b No Unknown)
 
-first_of : (a b : Bool) → answer_of a b ≡ 1 → a ≡ true
+first_of : (a b : Bool) → answer_of a b ≡ Yes → a ≡ true
 first_of true b h = refl
-first_of false true h = absurd (omega arith)
-first_of false false h = absurd (omega arith)
+first_of false true h = absurd (true≢false (cc))
+first_of false false h = absurd (true≢false (cc))
 
-second_of : (a b : Bool) → answer_of a b ≡ 2 → b ≡ true
-second_of true b h = absurd (omega arith)
+second_of : (a b : Bool) → answer_of a b ≡ No → b ≡ true
+second_of true b h = absurd (true≢false (cc))
 second_of false true h = refl
-second_of false false h = absurd (omega arith)
+second_of false false h = absurd (true≢false (cc))
 
-neither_of : (a b : Bool) → answer_of a b ≡ 3 → (a ≡ false) × (b ≡ false)
-neither_of true b h = absurd (omega arith)
-neither_of false true h = absurd (omega arith)
+neither_of : (a b : Bool) → answer_of a b ≡ Unknown → (a ≡ false) × (b ≡ false)
+neither_of true b h = absurd (true≢false (cc))
+neither_of false true h = absurd (true≢false (cc))
 neither_of false false h = (refl, refl)
 
 module _ {E : Type 0} (m : Model E) (sound : Sound m) (n k : ℕ) (x y : Fraction) (e f : E) (c : Close m n x e) (d : Close m k y f) where
@@ -45,19 +48,19 @@ module _ {E : Type 0} (m : Model E) (sound : Sound m) (n k : ℕ) (x y : Fractio
   unfolding below
   below_is = ap (λ (u : Upper). ends_below u (m.lower e)) d.is
 
-  pub said_yes : compared m e f ≡ 1 → x ≼ y
+  pub said_yes : compared m e f ≡ Yes → x ≼ y
   unfolding by below
   said_yes h =
       let ends : c.top ≼ m.lower f = record { cross = leb-true (c.top.num * (m.lower f).den) ((m.lower f).num * c.top.den) (sym by_is ∙ first_of by below h) } in
       le_trans c.high (le_trans ends d.low)
 
-  pub said_no : compared m e f ≡ 2 → y ≺ x
+  pub said_no : compared m e f ≡ No → y ≺ x
   unfolding by below
   said_no h =
       let ends : d.top ≺ m.lower e = record { cross = ltb-true (d.top.num * (m.lower e).den) ((m.lower e).num * d.top.den) (sym below_is ∙ second_of by below h) } in
       le_lt d.high (lt_le ends c.low)
 
-  pub said_unknown : n + k ≤ 10000 → compared m e f ≡ 3 → Band m.fineness 10000 x y
+  pub said_unknown : n + k ≤ 10000 → compared m e f ≡ Unknown → Band m.fineness 10000 x y
   unfolding by below
   said_unknown le h =
       let pos = fine_positive sound in

@@ -1,15 +1,9 @@
 -- What comparing two enclosures answers.
-use Rattle.std.specs.Prelude.{ℕ, ◌*◌, Bool, false, cond, nat_le, nat_lt}
+use Rattle.std.specs.Prelude.{◌*◌, Bool, false, cond, nat_le, nat_lt}
 use Rattle.fraction.specs.Fraction.{Fraction}
 use Rattle.enclosure.specs.Model.{Model, Upper, at, unbounded}
 use Rattle.enclosure.specs.declared.Comparison.{Comparison}
 use Rattle.enclosure.specs.declared.Comparison.TheVariants.{Yes, No, Unknown}
-
--- the number of each answer
-abbrev pub number : Comparison → ℕ
-number Yes = 1
-number No = 2
-number Unknown = 3
 
 -- whether an upper end is at most y, and whether it is below y
 abbrev pub ends_by : Upper → Fraction → Bool
@@ -22,5 +16,5 @@ ends_below unbounded y = false
 
 -- "a is at most b" is answered yes exactly if a's upper end is at most b's lower end, no exactly if a's lower end
 -- is above b's upper end, and otherwise unknown
-abbrev pub compared : {E : Type 0} → Model E → E → E → ℕ
-compared m a b = cond (ends_by (m.upper a) (m.lower b)) 1 (cond (ends_below (m.upper b) (m.lower a)) 2 3)
+abbrev pub compared : {E : Type 0} → Model E → E → E → Comparison
+compared m a b = cond (ends_by (m.upper a) (m.lower b)) Yes (cond (ends_below (m.upper b) (m.lower a)) No Unknown)

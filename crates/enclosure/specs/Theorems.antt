@@ -7,6 +7,8 @@ use Rattle.enclosure.specs.Answer.{compared}
 use Rattle.enclosure.specs.Readings.{read_below, read_above, Under, Over}
 use Rattle.enclosure.specs.Formula.{Steps, number, plus, times, over, least, most, computed, made_by, exact_of, wide_of}
 use Rattle.enclosure.specs.Close.{Close, in_range}
+use Rattle.enclosure.specs.declared.Comparison.{Comparison}
+use Rattle.enclosure.specs.declared.Comparison.TheVariants.{Yes, No, Unknown}
 
 -- the grade of what a computation makes: a rounding adds 1
 abbrev pub grade_of : Steps → ℕ
@@ -35,10 +37,10 @@ abbrev pub FormulasClose : Type 0 → Type 0
 FormulasClose E = (m : Model E) → Sound m → (s : Steps) → T (tame_steps s) → Close m (grade_of s) (exact_of s) (made_by m s)
 
 -- what an answer on two enclosures says of the exact fractions: yes, at most; no, above; unknown, within 10000 / w of the larger
-pub record Tells (w answer : ℕ) (x y : Fraction) : Type 0 where
-  pub yes : answer ≡ 1 → x ≼ y
-  pub no : answer ≡ 2 → y ≺ x
-  pub unknown : answer ≡ 3 → Band w 10000 x y
+pub record Tells (w : ℕ) (answer : Comparison) (x y : Fraction) : Type 0 where
+  pub yes : answer ≡ Yes → x ≼ y
+  pub no : answer ≡ No → y ≺ x
+  pub unknown : answer ≡ Unknown → Band w 10000 x y
 
 -- comparing two close enclosures tells how the exact fractions compare
 abbrev pub ComparisonsTell : Type 0 → Type 0

@@ -2,7 +2,7 @@
 #![tactic(auto)]
 
 ghost use Rattle.std.specs.Prelude.{◌≡◌, ℕ};
-ghost use Rattle.enclosure.specs.Answer.{number, compared};
+ghost use Rattle.enclosure.specs.Answer.{compared};
 ghost use Rattle.enclosure.specs.Model.{Model, Sound};
 ghost use Rattle.enclosure.specs.Readings.{read_below, read_above};
 ghost use Rattle.enclosure.specs.Formula.{computed, wide_of};
@@ -51,7 +51,7 @@ pub trait Arithmetic: Copy {
 
     /// Whether this is at most the other.
     fn at_most(self, other: Self) -> Comparison
-        ensures { number result ≡ compared model self other };
+        ensures { result ≡ compared model self other };
 
     ghost stated_fineness: { FINENESS ≡ model.fineness };
 

@@ -11,8 +11,8 @@ use Rattle.judging.specs.Judged.{Marked}
 use Rattle.equations.specs.declared.figure.Figure.{Figure}
 use Rattle.equations.specs.declared.figure.Figure.TheVariants.{PrismPressure, SoilModulus, HoopStiffness, VerticalArching, DesignThrust, ThrustStrain, ServiceStrain, Deflection}
 use Rattle.judging.specs.declared.answer.Mark.{Mark}
-use Rattle.judging.specs.declared.claim.Claimed.{Claimed}
-use Rattle.judging.specs.declared.claims.Claim.{Claim}
+use Rattle.judging.specs.declared.claimed.Claimed.{Claimed}
+use Rattle.judging.specs.declared.claim.Claim.{Claim}
 
 numbered_found : (n : ℕ) (fs : List Figure) (f : Figure) → Some f ≡ numbered_in n fs → n ≡ figure_number f
 numbered_found n [] f h = absurd (true≢false (cc))

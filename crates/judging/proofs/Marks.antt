@@ -1,9 +1,10 @@
 -- What marking a claim tells, and the figures.
 use Rattle.std.proofs.Common.{◌≡◌, ℕ, ◌*◌, ◌^◌, ◌≤◌, ◌⊎◌, T, sym, refl, ap, ◌∙◌, subst, inl, inr, arith, lit≤}
 use Rattle.std.proofs.Math.Logic.{⊎_map}
+use Rattle.std.proofs.lemmas.Bool.{true≢false}
 use Rattle.fraction.specs.Fraction.{Fraction, whole, ◌⊘◌}
 use Rattle.enclosure.specs.Model.{Model, Sound}
-use Rattle.enclosure.specs.Answer.{number, compared}
+use Rattle.enclosure.specs.Answer.{compared}
 use Rattle.enclosure.specs.Formula.{computed}
 use Rattle.enclosure.specs.Close.{Close}
 use Rattle.enclosure.specs.declared.Comparison.{Comparison}
@@ -12,49 +13,49 @@ use Rattle.enclosure.proofs.Comparisons.{said_yes, said_no, said_unknown}
 use Rattle.enclosure.proofs.Trees.{as_tree, field, closed}
 use Rattle.equations.specs.Design.{Design}
 use Rattle.equations.specs.Figures.{figure}
-use Rattle.judging.specs.Answers.{mark_number}
 use Rattle.quantities.specs.Formulas.{parts_of}
 use Rattle.judging.specs.Judged.{Marked, mark_of, low_edge, high_edge}
 use Rattle.quantities.specs.Known.{Known}
 use Rattle.judging.specs.Figured.{FigureKnown, MillionthsKnown}
 use Rattle.equations.specs.declared.figure.Figure.{Figure}
 use Rattle.judging.specs.declared.answer.Mark.{Mark}
+use Rattle.judging.specs.declared.answer.Mark.TheVariants.{Right, Wrong, Unmarked}
 use Rattle.quantities.proofs.Known.{leaf, known, meets}
 use Rattle.judging.proofs.Compared.{enclosure_of}
 
 -- which answers a mark comes from
-both_yes : (u v : Comparison) → mark_of (number u) (number v) ≡ 1 → (number u ≡ 1) × (number v ≡ 1)
+both_yes : (u v : Comparison) → mark_of u v ≡ Right → (u ≡ Yes) × (v ≡ Yes)
 both_yes Yes Yes h = (refl, refl)
-both_yes Yes No h = absurd (omega arith)
-both_yes Yes Unknown h = absurd (omega arith)
-both_yes No v h = absurd (omega arith)
-both_yes Unknown Yes h = absurd (omega arith)
-both_yes Unknown No h = absurd (omega arith)
-both_yes Unknown Unknown h = absurd (omega arith)
+both_yes Yes No h = absurd (true≢false (cc))
+both_yes Yes Unknown h = absurd (true≢false (cc))
+both_yes No v h = absurd (true≢false (cc))
+both_yes Unknown Yes h = absurd (true≢false (cc))
+both_yes Unknown No h = absurd (true≢false (cc))
+both_yes Unknown Unknown h = absurd (true≢false (cc))
 
-one_no : (u v : Comparison) → mark_of (number u) (number v) ≡ 2 → (number u ≡ 2) ⊎ (number v ≡ 2)
-one_no Yes Yes h = absurd (omega arith)
+one_no : (u v : Comparison) → mark_of u v ≡ Wrong → (u ≡ No) ⊎ (v ≡ No)
+one_no Yes Yes h = absurd (true≢false (cc))
 one_no Yes No h = inr refl
-one_no Yes Unknown h = absurd (omega arith)
+one_no Yes Unknown h = absurd (true≢false (cc))
 one_no No v h = inl refl
-one_no Unknown Yes h = absurd (omega arith)
+one_no Unknown Yes h = absurd (true≢false (cc))
 one_no Unknown No h = inr refl
-one_no Unknown Unknown h = absurd (omega arith)
+one_no Unknown Unknown h = absurd (true≢false (cc))
 
-one_unknown : (u v : Comparison) → mark_of (number u) (number v) ≡ 3 → (number u ≡ 3) ⊎ (number v ≡ 3)
-one_unknown Yes Yes h = absurd (omega arith)
-one_unknown Yes No h = absurd (omega arith)
+one_unknown : (u v : Comparison) → mark_of u v ≡ Unmarked → (u ≡ Unknown) ⊎ (v ≡ Unknown)
+one_unknown Yes Yes h = absurd (true≢false (cc))
+one_unknown Yes No h = absurd (true≢false (cc))
 one_unknown Yes Unknown h = inr refl
-one_unknown No v h = absurd (omega arith)
+one_unknown No v h = absurd (true≢false (cc))
 one_unknown Unknown Yes h = inl refl
-one_unknown Unknown No h = absurd (omega arith)
+one_unknown Unknown No h = absurd (true≢false (cc))
 one_unknown Unknown Unknown h = inl refl
 
 module _ {E : Type 0} {m : Model E} (s : Sound m) where
   edge_close : (n : ℕ) → 1 ≤ n → n ≤ 10 ^ 16 → Close m 3 (whole n ⊘ whole 100) (parts_of (computed m) n 100)
   edge_close n h l = closed s ((as_tree m).div (field 1 (10 ^ 16) n h l) ((as_tree m).num 100)) tt
 
-  pub marked_by : (c : ℕ) (x : Fraction) (e l h : E) (u v : Comparison) (k : Mark) → 1 ≤ c → c ≤ 10 ^ 13 → Known m 302 1 (10 ^ 4) (10 ^ 15) 1 x e → l ≡ parts_of (computed m) (99 * c) 100 → h ≡ parts_of (computed m) (101 * c) 100 → number u ≡ compared m l e → number v ≡ compared m e h → mark_number k ≡ mark_of (number u) (number v) → Marked m c x k
+  pub marked_by : (c : ℕ) (x : Fraction) (e l h : E) (u v : Comparison) (k : Mark) → 1 ≤ c → c ≤ 10 ^ 13 → Known m 302 1 (10 ^ 4) (10 ^ 15) 1 x e → l ≡ parts_of (computed m) (99 * c) 100 → h ≡ parts_of (computed m) (101 * c) 100 → u ≡ compared m l e → v ≡ compared m e h → k ≡ mark_of u v → Marked m c x k
   marked_by c x e l h u v k some most p i j a b is =
       let q = p.close in
       let low : Close m 3 (low_edge c) l = subst (λ f. Close m 3 (low_edge c) f) (sym i) (edge_close (99 * c) (omega arith) (omega arith)) in
@@ -63,12 +64,12 @@ module _ {E : Type 0} {m : Model E} (s : Sound m) where
         figure = enclosure_of q;
         low = enclosure_of low;
         high = enclosure_of high;
-        is = is ∙ (ap (λ n. mark_of n (number v)) a ∙ ap (λ n. mark_of (compared m l e) n) b);
+        is = is ∙ (ap (λ n. mark_of n v) a ∙ ap (mark_of (compared m l e)) b);
         right = λ r.
-            let t = both_yes u v (sym is ∙ ap mark_number r) in
+            let t = both_yes u v (sym is ∙ r) in
             (said_yes m s 3 302 (low_edge c) x l e low q (sym a ∙ t.0), said_yes m s 302 3 x (high_edge c) e h q high (sym b ∙ t.1));
-        wrong = λ r. ⊎_map (λ t. said_no m s 3 302 (low_edge c) x l e low q (sym a ∙ t)) (λ t. said_no m s 302 3 x (high_edge c) e h q high (sym b ∙ t)) (one_no u v (sym is ∙ ap mark_number r));
-        unmarked = λ r. ⊎_map (λ t. said_unknown m s 3 302 (low_edge c) x l e low q (lit≤ tt) (sym a ∙ t)) (λ t. said_unknown m s 302 3 x (high_edge c) e h q high (lit≤ tt) (sym b ∙ t)) (one_unknown u v (sym is ∙ ap mark_number r));
+        wrong = λ r. ⊎_map (λ t. said_no m s 3 302 (low_edge c) x l e low q (sym a ∙ t)) (λ t. said_no m s 302 3 x (high_edge c) e h q high (sym b ∙ t)) (one_no u v (sym is ∙ r));
+        unmarked = λ r. ⊎_map (λ t. said_unknown m s 3 302 (low_edge c) x l e low q (lit≤ tt) (sym a ∙ t)) (λ t. said_unknown m s 302 3 x (high_edge c) e h q high (lit≤ tt) (sym b ∙ t)) (one_unknown u v (sym is ∙ r));
       }
 
   -- a quantity as a figure

@@ -1,14 +1,15 @@
 -- What the verdict on a judged sheet means.
-use Rattle.std.proofs.Common.{◌≡◌, ℕ, Bool, true, false, cond, ◌||◌, Some, None, Option, sym, refl, ◌∙◌, subst, arith}
-use Rattle.std.proofs.lemmas.Bool.{or_parts}
+use Rattle.std.proofs.Common.{◌≡◌, Bool, true, false, cond, ◌||◌, Some, None, Option, sym, refl, ◌∙◌, subst}
+use Rattle.std.proofs.lemmas.Bool.{or_parts, true≢false}
 use Rattle.fraction.specs.Fraction.{Fraction, ◌≼◌, ◌≺◌}
 use Rattle.fraction.specs.Graded.{Band}
 use Rattle.enclosure.specs.Model.{Model}
-use Rattle.enclosure.specs.Answer.{compared, ends_by, ends_below}
+use Rattle.enclosure.specs.declared.Comparison.{Comparison}
+use Rattle.enclosure.specs.declared.Comparison.TheVariants.{Yes, No, Unknown}
 use Rattle.equations.specs.Design.{Design}
 use Rattle.equations.specs.Limits.{left, right, buoyant}
-use Rattle.judging.specs.Answers.{failing, unsettled, first_failing, any_unsettled, decided, limit_states, states}
-use Rattle.judging.specs.Judged.{Judged, Asked, SheetJudged, Met, Means}
+use Rattle.judging.specs.Answers.{state_of, failing, unsettled, first_failing, any_unsettled, decided, limit_states, states}
+use Rattle.judging.specs.Judged.{Judged, LimitJudged, Asked, SheetJudged, Met, Means}
 use Rattle.equations.specs.declared.limit_state.LimitState.{LimitState}
 use Rattle.equations.specs.declared.limit_state.LimitState.TheVariants.{Thrust, NetTension, Combined, Deflection, Buckling, Flexibility, Buoyancy}
 use Rattle.judging.specs.declared.answer.State.{State}
@@ -19,21 +20,21 @@ use Rattle.judging.specs.declared.sheet.Sheet.{Sheet}
 -- which tests a verdict comes from
 none_fails : (o : Option LimitState) (b : Bool) → decided o b ≡ Accepted → (o ≡ None) × (b ≡ false)
 none_fails None false h = (refl, refl)
-none_fails None true h = let z : ◌≡◌ {A = ℕ} 0 1 = cc in absurd (omega arith)
-none_fails (Some l) b h = let z : ◌≡◌ {A = ℕ} 0 1 = cc in absurd (omega arith)
+none_fails None true h = absurd (true≢false (cc))
+none_fails (Some l) b h = absurd (true≢false (cc))
 
 one_fails : (o : Option LimitState) (b : Bool) (l : LimitState) → decided o b ≡ Rejected l → o ≡ Some l
-one_fails None false l h = let z : ◌≡◌ {A = ℕ} 0 1 = cc in absurd (omega arith)
-one_fails None true l h = let z : ◌≡◌ {A = ℕ} 0 1 = cc in absurd (omega arith)
+one_fails None false l h = absurd (true≢false (cc))
+one_fails None true l h = absurd (true≢false (cc))
 one_fails (Some k) b l h = cc
 
 one_open : (o : Option LimitState) (b : Bool) → decided o b ≡ NoVerdict → b ≡ true
-one_open None false h = let z : ◌≡◌ {A = ℕ} 0 1 = cc in absurd (omega arith)
+one_open None false h = absurd (true≢false (cc))
 one_open None true h = refl
-one_open (Some l) b h = let z : ◌≡◌ {A = ℕ} 0 1 = cc in absurd (omega arith)
+one_open (Some l) b h = absurd (true≢false (cc))
 
 passed : (b : Bool) (l : LimitState) (o : Option LimitState) → cond b (Some l) o ≡ None → (b ≡ false) × (o ≡ None)
-passed true l o h = let z : ◌≡◌ {A = ℕ} 0 1 = cc in absurd (omega arith)
+passed true l o h = absurd (true≢false (cc))
 passed false l o h = (refl, h)
 
 found : (P : LimitState → Type 0) (b : Bool) (k l : LimitState) (o : Option LimitState) → (b ≡ true → P k) → (o ≡ Some l → P l) → cond b (Some k) o ≡ Some l → P l
@@ -48,49 +49,46 @@ either true b f g h = f refl
 either false b f g h = g h
 
 -- what is judged is never out of question
-answered : {E : Type 0} (m : Model E) (e f : E) → ◌≡◌ {A = ℕ} 4 (compared m e f) → ⊥
-answered m e f h = by (ends_by (m.upper e) (m.lower f)) (ends_below (m.upper f) (m.lower e)) h
-  where
-    by : (a b : Bool) → ◌≡◌ {A = ℕ} 4 (cond a 1 (cond b 2 3)) → ⊥
-    by true b h = omega arith
-    by false true h = omega arith
-    by false false h = omega arith
+answered : (a : Comparison) → NotApplied ≡ state_of a → ⊥
+answered Yes h = true≢false (cc)
+answered No h = true≢false (cc)
+answered Unknown h = true≢false (cc)
 
 module _ {E : Type 0} (m : Model E) {x y : Fraction} where
   met : (s : State) → failing s ≡ false → unsettled s ≡ false → Judged m x y s → x ≼ y
   met Holds f u j = j.holds refl
-  met Fails f u j = let z : ◌≡◌ {A = ℕ} 0 1 = cc in absurd (omega arith)
-  met Undecided f u j = let z : ◌≡◌ {A = ℕ} 0 1 = cc in absurd (omega arith)
-  met NotApplied f u j = absurd (answered m j.first.it j.second.it j.is)
+  met Fails f u j = absurd (true≢false (cc))
+  met Undecided f u j = absurd (true≢false (cc))
+  met NotApplied f u j = absurd (answered _ j.is)
 
   broken : (s : State) → failing s ≡ true → Judged m x y s → y ≺ x
-  broken Holds f j = let z : ◌≡◌ {A = ℕ} 0 1 = cc in absurd (omega arith)
+  broken Holds f j = absurd (true≢false (cc))
   broken Fails f j = j.fails refl
-  broken Undecided f j = let z : ◌≡◌ {A = ℕ} 0 1 = cc in absurd (omega arith)
-  broken NotApplied f j = let z : ◌≡◌ {A = ℕ} 0 1 = cc in absurd (omega arith)
+  broken Undecided f j = absurd (true≢false (cc))
+  broken NotApplied f j = absurd (true≢false (cc))
 
   near : (s : State) → unsettled s ≡ true → Judged m x y s → Band m.fineness 10000 x y
-  near Holds f j = let z : ◌≡◌ {A = ℕ} 0 1 = cc in absurd (omega arith)
-  near Fails f j = let z : ◌≡◌ {A = ℕ} 0 1 = cc in absurd (omega arith)
+  near Holds f j = absurd (true≢false (cc))
+  near Fails f j = absurd (true≢false (cc))
   near Undecided f j = j.undecided refl
-  near NotApplied f j = let z : ◌≡◌ {A = ℕ} 0 1 = cc in absurd (omega arith)
+  near NotApplied f j = absurd (true≢false (cc))
 
 -- a state that is failing or unsettled was asked for
 asked_failing : (b : Bool) (J : Type 0) (s : State) → failing s ≡ true → Asked b J s → J
 asked_failing true J s f j = j
-asked_failing false J s f j = let z : failing NotApplied ≡ true = subst (λ (t : State). failing t ≡ true) j f in let w : ◌≡◌ {A = ℕ} 0 1 = cc in absurd (omega arith)
+asked_failing false J s f j = let z : failing NotApplied ≡ true = subst (λ (t : State). failing t ≡ true) j f in absurd (true≢false (cc))
 
 asked_unsettled : (b : Bool) (J : Type 0) (s : State) → unsettled s ≡ true → Asked b J s → J
 asked_unsettled true J s f j = j
-asked_unsettled false J s f j = let z : unsettled NotApplied ≡ true = subst (λ (t : State). unsettled t ≡ true) j f in let w : ◌≡◌ {A = ℕ} 0 1 = cc in absurd (omega arith)
+asked_unsettled false J s f j = let z : unsettled NotApplied ≡ true = subst (λ (t : State). unsettled t ≡ true) j f in absurd (true≢false (cc))
 
 asked_there : (b : Bool) (J : Type 0) (s : State) → b ≡ true → Asked b J s → J
 asked_there true J s e j = j
-asked_there false J s e j = let z : ◌≡◌ {A = ℕ} 0 1 = cc in absurd (omega arith)
+asked_there false J s e j = absurd (true≢false (cc))
 
 module _ {E : Type 0} (m : Model E) (d : Design) (s : Sheet) (j : SheetJudged m d s) where
   abbrev J7 : Type 0
-  J7 = Judged m (left Buoyancy d) (right Buoyancy d) s.buoyancy
+  J7 = LimitJudged m Buoyancy d s.buoyancy
 
   when_accepted : s.verdict ≡ Accepted → Met d
   when_accepted h =
@@ -132,7 +130,7 @@ module _ {E : Type 0} (m : Model E) (d : Design) (s : Sheet) (j : SheetJudged m 
       (found Broken (failing s.buckling) Buckling l _ (λ f. broken m s.buckling f j.buckling)
       (found Broken (failing s.flexibility) Flexibility l _ (λ f. broken m s.flexibility f j.flexibility)
       (found Broken (failing s.buoyancy) Buoyancy l None (λ f. broken m s.buoyancy f (asked_failing (buoyant d) J7 s.buoyancy f j.buoyancy))
-      (λ n. let z : ◌≡◌ {A = ℕ} 0 1 = cc in absurd (omega arith)))))))) t
+      (λ n. absurd (true≢false (cc))))))))) t
 
   when_undecided : s.verdict ≡ NoVerdict → (l : LimitState) × Band m.fineness 10000 (left l d) (right l d)
   when_undecided h =
@@ -144,7 +142,7 @@ module _ {E : Type 0} (m : Model E) (d : Design) (s : Sheet) (j : SheetJudged m 
       (either (unsettled s.buckling) _ (λ f. (Buckling, near m s.buckling f j.buckling))
       (either (unsettled s.flexibility) _ (λ f. (Flexibility, near m s.flexibility f j.flexibility))
       (either (unsettled s.buoyancy) false (λ f. (Buoyancy, near m s.buoyancy f (asked_unsettled (buoyant d) J7 s.buoyancy f j.buoyancy)))
-      (λ n. let z : ◌≡◌ {A = ℕ} 0 1 = cc in absurd (omega arith)))))))) t
+      (λ n. absurd (true≢false (cc))))))))) t
 
   pub means : Means m.fineness d s.verdict
   means = record { accepted = when_accepted; rejected = when_rejected; undecided = when_undecided }

@@ -1,5 +1,7 @@
 -- The numbers of the answers, and the values that they carry.
 use Rattle.std.specs.Prelude.{ℕ, Bool, true, false, cond, ◌||◌, List, [], ◌∷◌, Some, None, Option}
+use Rattle.enclosure.specs.declared.Comparison.{Comparison}
+use Rattle.enclosure.specs.declared.Comparison.TheVariants.{Yes, No, Unknown}
 use Rattle.equations.specs.Limits.{limit_number}
 use Rattle.equations.specs.declared.limit_state.LimitState.{LimitState}
 use Rattle.equations.specs.declared.limit_state.LimitState.TheVariants.{Thrust, NetTension, Combined, Deflection, Buckling, Flexibility, Buoyancy}
@@ -16,6 +18,12 @@ state_number Holds = 1
 state_number Fails = 2
 state_number Undecided = 3
 state_number NotApplied = 4
+
+-- how a limit state stands by the answer on its sides
+abbrev pub state_of : Comparison → State
+state_of Yes = Holds
+state_of No = Fails
+state_of Unknown = Undecided
 
 -- the verdict's number, and the number of the limit state that it names, 0 where it names none
 abbrev pub verdict_number : Verdict → ℕ × ℕ

@@ -1,6 +1,6 @@
 -- What a claim may say.
 use Rattle.std.specs.Prelude.{ℕ, ◌^◌, cond, ◌&&◌, Some, None, Option, nat_le}
-use Rattle.judging.specs.declared.claim.Claimed.{Claimed}
+use Rattle.judging.specs.declared.claimed.Claimed.{Claimed}
 
 -- from 1 to 10 ^ 13 millionths
 abbrev pub claimed : ℕ → Option ℕ

@@ -6,7 +6,7 @@ use Rattle.equations.specs.Figures.{figure_numbered, figure_millionths}
 use Rattle.equations.specs.declared.figure.Figure.{Figure}
 use Rattle.judging.specs.Judged.{Marked}
 use Rattle.judging.specs.declared.answer.Mark.{Mark}
-use Rattle.judging.specs.declared.claims.Claim.{Claim}
+use Rattle.judging.specs.declared.claim.Claim.{Claim}
 
 -- the number of a figure
 abbrev pub on_figure : Claim → Bool

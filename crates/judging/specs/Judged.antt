@@ -1,16 +1,18 @@
 -- What judging and marking promise.
-use Rattle.std.specs.Prelude.{◌≡◌, ℕ, ◌*◌, Bool, true, false, cond, ◌&&◌, ◌||◌, ◌⊎◌, ◌==◌}
+use Rattle.std.specs.Prelude.{◌≡◌, ℕ, ◌*◌, Bool, true, false, ◌⊎◌}
 use Rattle.fraction.specs.Fraction.{Fraction, whole, ◌⊕◌, ◌⊗◌, ◌⊘◌, ◌≼◌, ◌≺◌}
 use Rattle.fraction.specs.Graded.{Band}
 use Rattle.enclosure.specs.Model.{Model, Encloses}
 use Rattle.enclosure.specs.Answer.{compared}
 use Rattle.enclosure.specs.Formula.{Made}
+use Rattle.enclosure.specs.declared.Comparison.{Comparison}
+use Rattle.enclosure.specs.declared.Comparison.TheVariants.{Yes, No, Unknown}
 use Rattle.equations.specs.Units.{hundredths}
 use Rattle.equations.specs.Design.{Design}
 use Rattle.equations.specs.Limits.{left, right, buoyant}
 use Rattle.equations.specs.declared.limit_state.LimitState.{LimitState}
 use Rattle.equations.specs.declared.limit_state.LimitState.TheVariants.{Thrust, NetTension, Combined, Deflection, Buckling, Flexibility, Buoyancy}
-use Rattle.judging.specs.Answers.{state_number, mark_number, states, verdict_of}
+use Rattle.judging.specs.Answers.{state_of, states, verdict_of}
 use Rattle.judging.specs.declared.answer.Mark.{Mark}
 use Rattle.judging.specs.declared.answer.Mark.TheVariants.{Right, Wrong, Unmarked}
 use Rattle.judging.specs.declared.answer.State.{State}
@@ -30,10 +32,14 @@ pub record Enclosure {E : Type 0} (m : Model E) (x : Fraction) : Type 0 where
 pub record Judged {E : Type 0} (m : Model E) (x y : Fraction) (s : State) : Type 0 where
   pub first : Enclosure m x
   pub second : Enclosure m y
-  pub is : state_number s ≡ compared m first.it second.it
+  pub is : s ≡ state_of (compared m first.it second.it)
   pub holds : s ≡ Holds → x ≼ y
   pub fails : s ≡ Fails → y ≺ x
   pub undecided : s ≡ Undecided → Band m.fineness 10000 x y
+
+-- and so one of the seven
+abbrev pub LimitJudged : {E : Type 0} → Model E → LimitState → Design → State → Type 0
+LimitJudged m l d s = Judged m (left l d) (right l d) s
 
 -- buoyancy is judged with water, and else not applied
 abbrev pub Asked : Bool → Type 0 → State → Type 0
@@ -41,13 +47,13 @@ Asked true judged s = judged
 Asked false judged s = s ≡ NotApplied
 
 pub record SheetJudged {E : Type 0} (m : Model E) (d : Design) (s : Sheet) : Type 0 where
-  pub thrust : Judged m (left Thrust d) (right Thrust d) s.thrust
-  pub net_tension : Judged m (left NetTension d) (right NetTension d) s.net_tension
-  pub combined : Judged m (left Combined d) (right Combined d) s.combined
-  pub deflection : Judged m (left Deflection d) (right Deflection d) s.deflection
-  pub buckling : Judged m (left Buckling d) (right Buckling d) s.buckling
-  pub flexibility : Judged m (left Flexibility d) (right Flexibility d) s.flexibility
-  pub buoyancy : Asked (buoyant d) (Judged m (left Buoyancy d) (right Buoyancy d) s.buoyancy) s.buoyancy
+  pub thrust : LimitJudged m Thrust d s.thrust
+  pub net_tension : LimitJudged m NetTension d s.net_tension
+  pub combined : LimitJudged m Combined d s.combined
+  pub deflection : LimitJudged m Deflection d s.deflection
+  pub buckling : LimitJudged m Buckling d s.buckling
+  pub flexibility : LimitJudged m Flexibility d s.flexibility
+  pub buoyancy : Asked (buoyant d) (LimitJudged m Buoyancy d s.buoyancy) s.buoyancy
   pub verdict : s.verdict ≡ verdict_of (states s)
 
 -- accepted: every inequality that applies is met
@@ -75,15 +81,18 @@ abbrev pub high_edge : ℕ → Fraction
 high_edge c = hundredths (101 * c)
 
 -- right if both comparisons answer yes, wrong if one answers no, otherwise unmarked
-abbrev pub mark_of : ℕ → ℕ → ℕ
-mark_of a b = cond (a == 1 && b == 1) 1 (cond (a == 2 || b == 2) 2 3)
+abbrev pub mark_of : Comparison → Comparison → Mark
+mark_of Yes Yes = Right
+mark_of No b = Wrong
+mark_of a No = Wrong
+mark_of a b = Unmarked
 
 -- a claim of c millionths on the exact figure x, in millionths
 pub record Marked {E : Type 0} (m : Model E) (c : ℕ) (x : Fraction) (k : Mark) : Type 0 where
   pub figure : Enclosure m x
   pub low : Enclosure m (low_edge c)
   pub high : Enclosure m (high_edge c)
-  pub is : mark_number k ≡ mark_of (compared m low.it figure.it) (compared m figure.it high.it)
+  pub is : k ≡ mark_of (compared m low.it figure.it) (compared m figure.it high.it)
   pub right : k ≡ Right → (low_edge c ≼ x) × (x ≼ high_edge c)
   pub wrong : k ≡ Wrong → (x ≺ low_edge c) ⊎ (high_edge c ≺ x)
   pub unmarked : k ≡ Unmarked → Band m.fineness 10000 (low_edge c) x ⊎ Band m.fineness 10000 x (high_edge c)

@@ -1,6 +1,5 @@
 ghost use Rattle.std.specs.Prelude.{◌≡◌};
-ghost use Rattle.enclosure.specs.Answer.{number};
-ghost use Rattle.judging.specs.Answers.{state_number, mark_number};
+ghost use Rattle.judging.specs.Answers.{state_number, state_of, mark_number};
 
 use enclosure::Comparison;
 use equations::LimitState;
@@ -24,9 +23,9 @@ impl State {
     }
 }
 
-/// Whether the left side of a limit state is at most the right one.
+/// How a limit state stands by what comparing its sides answers.
 impl From<Comparison> for State {
-    ghost from_gives = { λ comparison state. state_number state ≡ number comparison };
+    ghost from_gives = { λ comparison state. state ≡ state_of comparison };
 
     fn from(comparison: Comparison) -> Self {
         match comparison {

@@ -1,24 +1,10 @@
-ghost use Rattle.std.specs.Prelude.{◌^◌, ◌≤◌};
+use crate::answer::Mark;
 
-/// What a claim says that a figure is, in millionths: from 1 to 10^13.
+/// A claim: what a figure is said to be, in millionths, and beside it the mark that it earns.
 #[derive(Clone, Copy)]
-pub struct Claimed {
-    pub(crate) value: u64,
-    ghost some: { 1 ≤ value },
-    ghost most: { value ≤ 10 ^ 13 },
-}
-
-impl Claimed {
-    ghost use Rattle.std.specs.Prelude.{◌≡◌};
-    ghost use Rattle.judging.specs.Claim.{claimed, stated_claim};
-
-    /// A claim of this many millionths, from 1 to 10^13.
-    pub fn new(value: u64) -> Option<Self>
-        ensures { stated_claim result ≡ claimed value }
-    {
-        if value == 0 || value > 10_000_000_000_000 {
-            return None;
-        }
-        Some(Claimed { value })
-    }
+pub struct Claim {
+    /// The number of the figure. A number, and no Figure: a claim on none stays as it is.
+    pub figure: u64,
+    pub value: u64,
+    pub mark: Option<Mark>,
 }

@@ -3,7 +3,7 @@
 
 mod answer;
 mod claim;
-mod claims;
+mod claimed;
 mod limits;
 mod marking;
 mod sheet;
@@ -12,8 +12,8 @@ mod verdicts;
 mod worked_case;
 
 pub use answer::{Mark, State, Verdict};
-pub use claim::Claimed;
-pub use claims::Claim;
+pub use claim::Claim;
+pub use claimed::Claimed;
 pub use equations::{Figure, LimitState, UnknownFigure};
 pub use limits::judge;
 pub use marking::{figure, mark, mark_all};

@@ -1,10 +1,10 @@
 ghost use Rattle.std.specs.Prelude.{◌≡◌};
 ghost use Rattle.enclosure.specs.Answer.{compared};
-ghost use Rattle.equations.specs.Limits.{left, right, buoyant};
+ghost use Rattle.equations.specs.Limits.{buoyant};
 ghost use Rattle.quantities.specs.Case.{design_of};
-ghost use Rattle.judging.specs.Answers.{state_number};
+ghost use Rattle.judging.specs.Answers.{state_of};
 ghost use Rattle.judging.specs.WorkedCase.{design, IsWorkedOut};
-ghost use Rattle.judging.specs.Judged.{Judged, Asked, SheetJudged, Means};
+ghost use Rattle.judging.specs.Judged.{LimitJudged, Asked, SheetJudged, Means};
 
 use crate::answer::State;
 use crate::sheet::Sheet;
@@ -18,9 +18,9 @@ use enclosure::Arithmetic;
 use equations::LimitState;
 use quantities::{Case, cube, parts};
 
-/// Whether the left side is at most the right one.
+/// Holds where the left side is at most the right one, fails where it is above, and undecided where that is unknown.
 fn state<A: Arithmetic>(left: A, right: A) -> State
-    ensures { state_number result ≡ compared A.model left right }
+    ensures { result ≡ state_of (compared A.model left right) }
 {
     left.at_most(right).into()
 }
@@ -28,7 +28,7 @@ fn state<A: Arithmetic>(left: A, right: A) -> State
 impl<'a, A: Arithmetic> WorkedCase<'a, A> {
     fn thrust(&self) -> State
         requires { IsWorkedOut A.model self.now }
-        ensures { Judged A.model (left LimitState.Thrust (design self.now)) (right LimitState.Thrust (design self.now)) result }
+        ensures { LimitJudged A.model LimitState.Thrust (design self.now) result }
     {
         let allowed = parts(self.given.section.compression_limit, 10_000);
         state(self.worked.thrust_strain, allowed)
@@ -36,7 +36,7 @@ impl<'a, A: Arithmetic> WorkedCase<'a, A> {
 
     fn net_tension(&self) -> State
         requires { IsWorkedOut A.model self.now }
-        ensures { Judged A.model (left LimitState.NetTension (design self.now)) (right LimitState.NetTension (design self.now)) result }
+        ensures { LimitJudged A.model LimitState.NetTension (design self.now) result }
     {
         let bent = bending_strain(&self.worked);
         let limit = parts(self.given.section.tension_limit, 10_000);
@@ -46,7 +46,7 @@ impl<'a, A: Arithmetic> WorkedCase<'a, A> {
 
     fn combined(&self) -> State
         requires { IsWorkedOut A.model self.now }
-        ensures { Judged A.model (left LimitState.Combined (design self.now)) (right LimitState.Combined (design self.now)) result }
+        ensures { LimitJudged A.model LimitState.Combined (design self.now) result }
     {
         let bent = bending_strain(&self.worked);
         let pressed = bent.add(self.worked.thrust_strain);
@@ -57,7 +57,7 @@ impl<'a, A: Arithmetic> WorkedCase<'a, A> {
 
     fn deflection(&self) -> State
         requires { IsWorkedOut A.model self.now }
-        ensures { Judged A.model (left LimitState.Deflection (design self.now)) (right LimitState.Deflection (design self.now)) result }
+        ensures { LimitJudged A.model LimitState.Deflection (design self.now) result }
     {
         let share = parts::<A>(5, 100);
         let allowed = share.mul(self.worked.measures.inside);
@@ -66,7 +66,7 @@ impl<'a, A: Arithmetic> WorkedCase<'a, A> {
 
     fn buckling(&self) -> State
         requires { IsWorkedOut A.model self.now }
-        ensures { Judged A.model (left LimitState.Buckling (design self.now)) (right LimitState.Buckling (design self.now)) result }
+        ensures { LimitJudged A.model LimitState.Buckling (design self.now) result }
     {
         let strain = cube(self.worked.thrust_strain);
         let allowed = buckling_cube(&self.worked);
@@ -75,7 +75,7 @@ impl<'a, A: Arithmetic> WorkedCase<'a, A> {
 
     fn flexibility(&self) -> State
         requires { IsWorkedOut A.model self.now }
-        ensures { Judged A.model (left LimitState.Flexibility (design self.now)) (right LimitState.Flexibility (design self.now)) result }
+        ensures { LimitJudged A.model LimitState.Flexibility (design self.now) result }
     {
         let give = flexibility(&self.worked.measures);
         let allowed = parts(95, 1_000);
@@ -84,7 +84,7 @@ impl<'a, A: Arithmetic> WorkedCase<'a, A> {
 
     fn buoyancy(&self) -> State
         requires { IsWorkedOut A.model self.now }
-        ensures { Asked (buoyant (design self.now)) (Judged A.model (left LimitState.Buoyancy (design self.now)) (right LimitState.Buoyancy (design self.now)) result) result }
+        ensures { Asked (buoyant (design self.now)) (LimitJudged A.model LimitState.Buoyancy (design self.now) result) result }
     {
         if self.given.site.water == 0 {
             return State::NotApplied;

@@ -1,6 +1,4 @@
 ghost use Rattle.std.specs.Prelude.{◌≡◌};
-ghost use Rattle.enclosure.specs.Answer.{number};
-ghost use Rattle.judging.specs.Answers.{mark_number};
 ghost use Rattle.quantities.specs.Case.{design_of};
 ghost use Rattle.judging.specs.Claims.{ClaimMarked, ClaimsMarked};
 ghost use Rattle.judging.specs.WorkedCase.{design, IsWorkedOut};
@@ -9,15 +7,15 @@ ghost use Rattle.judging.specs.Figured.{FigureKnown, MillionthsKnown};
 ghost use Rattle.equations.specs.Figures.{figure_millionths};
 
 use crate::answer::Mark;
-use crate::claim::Claimed;
-use crate::claims::Claim;
+use crate::claim::Claim;
+use crate::claimed::Claimed;
 use crate::worked_case::WorkedCase;
 use enclosure::{Arithmetic, Comparison, ReadOut};
 use equations::Figure;
 use quantities::{Case, parts};
 
 fn marked(above: Comparison, below: Comparison) -> Mark
-    ensures { mark_number result ≡ mark_of (number above) (number below) }
+    ensures { result ≡ mark_of above below }
 {
     match (above, below) {
         (Comparison::Yes, Comparison::Yes) => Mark::Right,

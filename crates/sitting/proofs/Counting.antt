@@ -8,7 +8,7 @@ use Rattle.equations.specs.Design.{Design}
 use Rattle.judging.specs.Claims.{on_figure, in_range, ClaimsMarked}
 use Rattle.judging.specs.declared.answer.Mark.TheVariants.{Right, Wrong, Unmarked}
 use Rattle.judging.specs.declared.answer.Mark.{Mark}
-use Rattle.judging.specs.declared.claims.Claim.{Claim}
+use Rattle.judging.specs.declared.claim.Claim.{Claim}
 use Rattle.records.specs.Cause.{Refusal, first}
 use Rattle.sitting.specs.Claims.{claim_refusal, claims_refusal, tells, counts}
 use Rattle.sitting.specs.Sittings.{AllEarned}

@@ -5,7 +5,7 @@ use Rattle.judging.specs.Answers.{mark_number}
 use Rattle.judging.specs.Claims.{in_range}
 use Rattle.judging.specs.declared.answer.Mark.{Mark}
 use Rattle.judging.specs.declared.answer.Mark.TheVariants.{Right, Wrong, Unmarked}
-use Rattle.judging.specs.declared.claims.Claim.{Claim}
+use Rattle.judging.specs.declared.claim.Claim.{Claim}
 use Rattle.records.specs.Cause.{Refusal, refusal, first}
 use Rattle.records.specs.declared.fault.Cause.TheVariants.{Range, Figure, Claim as ClaimCause, Tally}
 

@@ -11,7 +11,7 @@ use Rattle.equations.specs.Figures.{figure_millionths, figure_numbered}
 use Rattle.equations.specs.declared.figure.Figure.{Figure}
 use Rattle.judging.specs.Claims.{Earned}
 use Rattle.judging.specs.Judged.{SheetJudged, Means, ReadOutOf}
-use Rattle.judging.specs.declared.claims.Claim.{Claim}
+use Rattle.judging.specs.declared.claim.Claim.{Claim}
 use Rattle.judging.specs.declared.sheet.Sheet.{Sheet}
 use Rattle.records.specs.Cause.{Refusal, first}
 use Rattle.sitting.specs.Cases.{Stands, places_refusal, vacancy, misfit, case_refusal}
