@@ -67,15 +67,15 @@ band_along {w} {n} h k b =
     }
 
 -- one decision, by the two orders
-pub same_test : (a b c d : ℕ) → (a ≤ b → c ≤ d) → (c ≤ d → a ≤ b) → leb a b ≡ leb c d
-same_test a b c d to from =
+pub one_test : (a b c d : ℕ) → (a ≤ b → c ≤ d) → (c ≤ d → a ≤ b) → leb a b ≡ leb c d
+one_test a b c d to from =
     dite (dec_le a b)
     (λ le. le-leb a b le ∙ back (le-leb c d (to le)))
     (λ gt. lt-leb a b (lt_of_not-le gt) ∙ back (lt-leb c d (lt_of_not-le (λ le. gt (from le)))))
 
 pub test_along : {x y : Fraction} (z : Fraction) → Same x y → at_most x z ≡ at_most y z
 test_along {x} {y} z h =
-    same_test _ _ _ _
+    one_test _ _ _ _
     (λ le. (order.le_trans {x = y} {y = x} {z = z} h.from (record { cross = le })).cross)
     (λ le. (order.le_trans {x = x} {y = y} {z = z} h.to (record { cross = le })).cross)
 
