@@ -9,17 +9,13 @@ use Rattle.equations.specs.Units.{hundredths, ten_thousandths}
 use Rattle.equations.specs.Regrouped.{ArchingLaw}
 use Rattle.equations.specs.Thrust.{arching}
 
--- one number, by its two parts
-pub same_by : {x y : Fraction} → x.num * y.den ≡ y.num * x.den → Same x y
-same_by {x} {y} e = record { to = record { cross = omega (arith, e) }; from = record { cross = omega (arith, e) } }
-
 taken_cross : (zn zd yn yd : ℕ) → ((zn * yd + yn * zd) * yd - yn * (zd * yd)) * zd ≡ zn * (zd * yd * yd)
 taken_cross zn zd yn yd =
     let e : (zn * yd + yn * zd) * yd - yn * (zd * yd) ≡ zn * yd * yd = omega arith in rw e (omega arith)
 
 pub taken : (z y : Fraction) → Same (z ⊕ y ⊖ y) z
 unfolding ◌⊕◌ ◌⊖◌
-taken z y = same_by (taken_cross z.num z.den y.num y.den)
+taken z y = same.by_parts (taken_cross z.num z.den y.num y.den)
 
 -- a difference is what makes up for it
 pub difference : (x y z : Fraction) → Same (z ⊕ y) x → Same (x ⊖ y) z
@@ -28,7 +24,7 @@ difference x y z h = same.trans (same.excess (same.sym h) (same.refl y)) (taken 
 -- a quotient's parts
 pub over_plus : (x y z : Fraction) → 0 < y.num → Same ((x ⊗ y ⊕ z) ⊘ y) (x ⊕ z ⊘ y)
 unfolding ◌⊕◌ ◌⊗◌ ◌⊘◌
-over_plus x y z pos = same_by (rw (order.one_max y.num pos) (omega arith))
+over_plus x y z pos = same.by_parts (rw (order.one_max y.num pos) (omega arith))
 
 module _ (sh : Fraction) where
   divisor_positive : 0 < (sh ⊕ hundredths 292).num
@@ -38,7 +34,7 @@ module _ (sh : Fraction) where
   -- 0.05 (SH + 2.92) + 2.9039 + 0.71 SH = 0.76 (SH + 2.92) + 0.71 1.17
   made_up : Same (hundredths 5 ⊗ (sh ⊕ hundredths 292) ⊕ ten_thousandths 29039 ⊕ hundredths 71 ⊗ sh) (hundredths 76 ⊗ (sh ⊕ hundredths 292) ⊕ hundredths 71 ⊗ hundredths 117)
   unfolding ◌⊕◌ ◌⊗◌ ◌⊘◌ whole
-  made_up = same_by (omega arith)
+  made_up = same.by_parts (omega arith)
 
   less : Same (hundredths 76 ⊗ (sh ⊕ hundredths 292) ⊕ hundredths 71 ⊗ hundredths 117 ⊖ hundredths 71 ⊗ sh) (hundredths 5 ⊗ (sh ⊕ hundredths 292) ⊕ ten_thousandths 29039)
   less = difference (hundredths 76 ⊗ (sh ⊕ hundredths 292) ⊕ hundredths 71 ⊗ hundredths 117) (hundredths 71 ⊗ sh) (hundredths 5 ⊗ (sh ⊕ hundredths 292) ⊕ ten_thousandths 29039) made_up

@@ -18,22 +18,22 @@ use Rattle.equations.specs.LiveLoad.{impact, wheel_width, wheels_pair}
 use Rattle.equations.specs.Soil.{fully_supported}
 use Rattle.equations.specs.Bending.{computed_stiffness, farther_face}
 use Rattle.equations.specs.Regrouped.{AllRegroup}
-use Rattle.equations.proofs.Arching.{same_by, arching_parts}
-use Rattle.equations.proofs.Prism.{same_test, prism_same}
+use Rattle.equations.proofs.Arching.{arching_parts}
+use Rattle.equations.proofs.Prism.{prism_same}
 
 -- 1 + 0.33 (1 - h / 96,000) with h + e = 96,000
 rolling_same : (h e : ℕ) → h + e ≡ 96000 → Same (whole (9600000 + 33 * e) ⊘ whole 9600000) (whole 1 ⊕ hundredths 33 ⊗ (whole 1 ⊖ thousandths h ⊘ whole 96))
 unfolding ◌⊕◌ ◌⊗◌ ◌⊘◌ ◌⊖◌ whole
-rolling_same h e k = same_by (omega arith)
+rolling_same h e k = same.by_parts (omega arith)
 
 -- a quotient, both of its parts multiplied
 scaled : (a b x : Fraction) → 0 < b.num → 0 < x.num → Same (a ⊗ x ⊘ (b ⊗ x)) (a ⊘ b)
 unfolding ◌⊗◌ ◌⊘◌
-scaled a b x bp xp = same_by (rw (order.one_max (b.num * x.num) (mul-pos bp xp), order.one_max b.num bp) (omega arith))
+scaled a b x bp xp = same.by_parts (rw (order.one_max (b.num * x.num) (mul-pos bp xp), order.one_max b.num bp) (omega arith))
 
 multiplied : (x y : Fraction) → 0 < x.num → Same ((whole 11 ⊕ y ⊘ x) ⊗ x) (whole 11 ⊗ x ⊕ y)
 unfolding ◌⊕◌ ◌⊗◌ ◌⊘◌ whole
-multiplied x y pos = same_by (rw (order.one_max x.num pos) (omega arith))
+multiplied x y pos = same.by_parts (rw (order.one_max x.num pos) (omega arith))
 
 eleven : 0 < (whole 11).num
 unfolding whole
@@ -52,23 +52,23 @@ ring_same : (e i c : ℕ) → 0 < c → Same (whole (800000000 * e * i) ⊘ whol
 unfolding ◌⊗◌ ◌⊘◌ whole
 ring_same e i c pos =
     let p = mul-pos (mul-pos pos pos) pos in
-    same_by (ring_cross e i (c * c * c) _ _ (omega arith) (omega arith))
+    same.by_parts (ring_cross e i (c * c * c) _ _ (omega arith) (omega arith))
 
 face_same : (i c o : ℕ) → Same (thousandths (max (o - c) (c - i))) ((thousandths o ⊖ thousandths c) ⊔ (thousandths c ⊖ thousandths i))
 unfolding ◌⊘◌ ◌⊖◌ ◌⊔◌ whole
-face_same i c o = same_by (omega arith)
+face_same i c o = same.by_parts (omega arith)
 
 pair_test : (h i : ℕ) → at_most (whole 72) (whole 20 ⊕ hundredths 115 ⊗ thousandths h ⊕ hundredths 6 ⊗ thousandths i) ≡ leb 5200000 (115 * h + 6 * i)
 unfolding ◌⊕◌ ◌⊗◌ ◌⊘◌ whole
-pair_test h i = same_test _ _ 5200000 (115 * h + 6 * i) (λ k. omega arith) (λ k. omega arith)
+pair_test h i = same.one_test _ _ 5200000 (115 * h + 6 * i) (λ k. omega arith) (λ k. omega arith)
 
 shallow_test : (h : ℕ) → at_most (thousandths h) (whole 96) ≡ leb h 96000
 unfolding ◌⊘◌ whole
-shallow_test h = same_test _ _ h 96000 (λ k. omega arith) (λ k. omega arith)
+shallow_test h = same.one_test _ _ h 96000 (λ k. omega arith) (λ k. omega arith)
 
 wide_test : (o b : ℕ) → at_most (whole 3 ⊗ thousandths o) (thousandths b) ≡ leb (3 * o) b
 unfolding ◌⊗◌ ◌⊘◌ whole
-wide_test o b = same_test _ _ (3 * o) b (λ k. omega arith) (λ k. omega arith)
+wide_test o b = same.one_test _ _ (3 * o) b (λ k. omega arith) (λ k. omega arith)
 
 low_test : (h : ℕ) → not (at_most (whole 120) (thousandths h)) ≡ ltb h 120000
 unfolding ◌⊘◌ whole

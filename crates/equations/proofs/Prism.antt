@@ -14,35 +14,27 @@ use Rattle.equations.specs.Units.{tenths, hundredths, thousandths}
 use Rattle.equations.specs.Design.{Design}
 use Rattle.equations.specs.Pressures.{crown_water, dry_prism, wet_prism, prism_pressure}
 use Rattle.equations.specs.Regrouped.{Drained, dry_units, wet_units, prism_units}
-use Rattle.equations.proofs.Arching.{same_by}
-
--- one decision, by the two orders
-pub same_test : (a b c d : ℕ) → (a ≤ b → c ≤ d) → (c ≤ d → a ≤ b) → leb a b ≡ leb c d
-same_test a b c d to from =
-    dite (dec_le a b)
-    (λ le. le-leb a b le ∙ sym (le-leb c d (to le)))
-    (λ gt. lt-leb a b (lt_of_not-le gt) ∙ sym (lt-leb c d (lt_of_not-le (λ le. gt (from le)))))
 
 pub dry_same : (h o g : ℕ) → Same (whole (dry_units h o g) ⊘ whole 3456000000) ((thousandths h ⊕ hundredths 11 ⊗ thousandths o) ⊗ tenths g ⊘ whole 1728)
 unfolding ◌⊕◌ ◌⊗◌ ◌⊘◌ whole
-dry_same h o g = same_by (omega arith)
+dry_same h o g = same.by_parts (omega arith)
 
 module _ (h o w t s v e : ℕ) where
   above_crown : o + t ≡ 2 * w → Same (thousandths w ⊖ thousandths o ⊘ whole 2) (whole t ⊘ whole 2000)
   unfolding ◌⊖◌ ◌⊘◌ whole
-  above_crown k = same_by (omega arith)
+  above_crown k = same.by_parts (omega arith)
 
   above_water : o + t ≡ 2 * w → t + e ≡ 2 * h → Same (thousandths h ⊖ (thousandths w ⊖ thousandths o ⊘ whole 2)) (whole e ⊘ whole 2000)
   unfolding ◌⊖◌ ◌⊘◌ whole
-  above_water k l = same_by (omega arith)
+  above_water k l = same.by_parts (omega arith)
 
   submerged : 624 + v ≡ s → Same (tenths s ⊖ tenths 624) (tenths v)
   unfolding ◌⊖◌ ◌⊘◌ whole
-  submerged k = same_by (omega arith)
+  submerged k = same.by_parts (omega arith)
 
   gathered : (g : ℕ) → Same (whole (100 * e * g + (100 * t + 22 * o) * v) ⊘ whole 3456000000) ((whole e ⊘ whole 2000 ⊗ tenths g ⊕ (whole t ⊘ whole 2000 ⊕ hundredths 11 ⊗ thousandths o) ⊗ tenths v) ⊘ whole 1728)
   unfolding ◌⊕◌ ◌⊗◌ ◌⊘◌ whole
-  gathered g = same_by (omega arith)
+  gathered g = same.by_parts (omega arith)
 
 positive : 0 < (whole 1728).num
 unfolding whole
@@ -68,7 +60,7 @@ wet_same d wet drained =
 
 dry_test : (w o : ℕ) → at_most (thousandths w) (thousandths o ⊘ whole 2) ≡ leb (2 * w) o
 unfolding ◌⊘◌ whole
-dry_test w o = same_test _ _ (2 * w) o (λ h. omega arith) (λ h. omega arith)
+dry_test w o = same.one_test _ _ (2 * w) o (λ h. omega arith) (λ h. omega arith)
 
 pub prism_same : (d : Design) → Drained d → Same (whole (prism_units d) ⊘ whole 3456000000) (prism_pressure d)
 unfolding prism_pressure dry_prism

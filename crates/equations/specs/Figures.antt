@@ -1,5 +1,5 @@
 -- The eight figures that an answer may be asked for, and their numbers.
-use Rattle.std.specs.Prelude.{◌≡◌, ℕ, cond, List, [], ◌∷◌, Some, None, Option, Result, MatchResult, ◌==◌}
+use Rattle.std.specs.Prelude.{ℕ, cond, List, [], ◌∷◌, Some, None, Option, ◌==◌}
 use Rattle.fraction.specs.Fraction.{Fraction, whole, ◌⊗◌}
 use Rattle.equations.specs.Design.{Design}
 use Rattle.equations.specs.Pressures.{prism_pressure}
@@ -9,7 +9,6 @@ use Rattle.equations.specs.Strains.{thrust_strain, service_strain}
 use Rattle.equations.specs.Deflection.{deflection}
 use Rattle.equations.specs.declared.figure.Figure.{Figure}
 use Rattle.equations.specs.declared.figure.Figure.TheVariants.{PrismPressure, SoilModulus, HoopStiffness, VerticalArching, DesignThrust, ThrustStrain, ServiceStrain, Deflection}
-use Rattle.equations.specs.declared.figure.UnknownFigure.{UnknownFigure}
 
 -- Psp, Ms, SH, VAF, TD, εc, εs and Δ
 abbrev pub figure : Figure → Design → Fraction
@@ -48,7 +47,3 @@ numbered_in n (f ∷ fs) = cond (n == figure_number f) (Some f) (numbered_in n f
 
 abbrev pub figure_numbered : ℕ → Option Figure
 figure_numbered n = numbered_in n figure_list
-
--- the figure with this number, or an error with a number that is no figure's
-abbrev pub Numbers : ℕ → Result Figure UnknownFigure → Type 0
-Numbers n r = MatchResult r (λ f. figure_numbered n ≡ Some f) (λ e. (e.0 ≡ n) × (figure_numbered n ≡ None))

@@ -1,8 +1,9 @@
 ghost use Rattle.std.specs.Prelude.{◌≡◌};
-ghost use Rattle.equations.specs.Figures.{figure_number, figure_numbered, Numbers};
+ghost use Rattle.std.specs.Option.{ok_or};
+ghost use Rattle.equations.specs.Figures.{figure_number, figure_numbered};
+ghost use Rattle.records.specs.declared.fault.Cause.TheVariants.{Figure as NoSuchFigure};
 
-use std::error::Error;
-use std::fmt;
+use records::Cause;
 
 /// The figures that a claim or a reading may ask for.
 #[derive(Clone, Copy, PartialEq, Eq, Debug)]
@@ -17,24 +18,13 @@ pub enum Figure {
     Deflection = 8,
 }
 
-/// A number that is no figure's.
-#[derive(Clone, Copy, PartialEq, Eq, Debug)]
-pub struct UnknownFigure(pub u64);
-
-impl fmt::Display for UnknownFigure {
-    fn fmt<W: fmt::Write>(&self, f: &mut fmt::Formatter<W>) -> fmt::Result {
-        write!(f, "no figure has the number {}", self.0)
-    }
-}
-
-impl Error for UnknownFigure {}
-
+/// The figure of a number from 1 to 8.
 impl TryFrom<u64> for Figure {
-    type Error = UnknownFigure;
+    type Error = Cause;
 
-    ghost try_from_gives = { Numbers };
+    ghost try_from_gives = { λ number result. result ≡ ok_or (figure_numbered number) NoSuchFigure };
 
-    fn try_from(number: u64) -> Result<Self, UnknownFigure> {
+    fn try_from(number: u64) -> Result<Self, Cause> {
         match number {
             1 => Ok(Figure::PrismPressure),
             2 => Ok(Figure::SoilModulus),
@@ -44,7 +34,7 @@ impl TryFrom<u64> for Figure {
             6 => Ok(Figure::ThrustStrain),
             7 => Ok(Figure::ServiceStrain),
             8 => Ok(Figure::Deflection),
-            _ => Err(UnknownFigure(number)),
+            _ => Err(Cause::Figure),
         }
     }
 }

@@ -7,7 +7,7 @@ ghost use Rattle.equations.specs.Tabulated.{Tabulated};
 mod figure;
 mod limit_state;
 
-pub use figure::{Figure, UnknownFigure};
+pub use figure::Figure;
 pub use limit_state::LimitState;
 
 /// The forms that a computation takes are the equations' own numbers and decisions.

@@ -1,5 +1,5 @@
 -- The order of fractions, and how the operations keep it.
-use Rattle.std.proofs.Common.{◌≡◌, ℕ, zero, suc, ◌+◌, ◌-◌, ◌*◌, ◌<◌, ◌≤◌, max, ◌∙◌, mul-le-mul_right, mul_comm, mul-le-mul, lt_of_mul-lt-mul_right, mul-le-mul_left, mul-lt-mul_of_pos_right, mul-pos, lt_of_not-le, le_of_mul-le-mul_right, arith}
+use Rattle.std.proofs.Common.{◌≡◌, ℕ, zero, suc, ◌+◌, ◌-◌, ◌*◌, ◌<◌, ◌≤◌, max, refl, ◌∙◌, mul-le-mul_right, mul_comm, mul-le-mul, lt_of_mul-lt-mul_right, mul-le-mul_left, mul-lt-mul_of_pos_right, mul-pos, lt_of_not-le, le_of_mul-le-mul_right, arith}
 use native.Mathlib.Nat.{mul-sub}
 use Rattle.fraction.specs.Fraction.{Fraction, whole, ◌⊕◌, ◌⊗◌, ◌⊘◌, ◌⊖◌, ◌≼◌, ◌≺◌}
 
@@ -87,6 +87,13 @@ pub over_le : {x y u v : Fraction} → 0 < v.num → x ≼ y → v ≼ u → x �
 unfolding ◌⊘◌
 over_le {x} {y} {u} {v} pos a b =
     record { cross = over_cross x.num x.den y.num y.den u.num u.den v.num v.den (max 1 u.num) (max 1 v.num) (omega arith) (omega arith) a.cross b.cross }
+
+-- by one divisor, be it 0 or not
+pub over_one_le : {x y : Fraction} (z : Fraction) → x ≼ y → x ⊘ z ≼ y ⊘ z
+unfolding ◌⊘◌
+over_one_le {x} {y} z h =
+    let m = max 1 z.num in
+    record { cross = over_cross x.num x.den y.num y.den m z.den m z.den m m (omega arith) refl h.cross (omega arith) }
 
 -- a product with a difference
 pub sub_mul : (a b c : ℕ) → (a - b) * c ≡ a * c - b * c

@@ -14,7 +14,7 @@ mod worked_case;
 pub use answer::{Mark, State, Verdict};
 pub use claim::Claim;
 pub use claimed::Claimed;
-pub use equations::{Figure, LimitState, UnknownFigure};
+pub use equations::{Figure, LimitState};
 pub use limits::judge;
 pub use marking::{figure, mark, mark_all};
 pub use sheet::Sheet;

@@ -9,6 +9,7 @@ use lib.Seq.{get_or-take, get_or-drop, drop-drop}
 use Rattle.fraction.specs.Fraction.{Fraction, Same, whole, ◌⊕◌, ◌⊗◌, ◌⊘◌}
 use Rattle.fraction.specs.Ratio.{value}
 use Rattle.fraction.specs.declared.ratio.Ratio.{Ratio}
+use Rattle.fraction.proofs.Sames as same
 use Rattle.lookups.specs.Cell.{mix, Finds, row_sum}
 use Rattle.lookups.specs.Line.{line_at}
 use Rattle.lookups.specs.Lookup.{rows, support_at}
@@ -17,7 +18,6 @@ use Rattle.records.specs.declared.grid.SupportGrid.{SupportGrid}
 use Rattle.records.specs.Lines.{grid_widths, grid_ratios, grid_factors}
 use Rattle.records.proofs.GridLines.{gridded}
 use Rattle.lookups.proofs.Cells.{finds_at}
-use Rattle.lookups.proofs.Same.{same_by, same_refl, same_trans, same_plus, same_times, same_over_by}
 use Rattle.lookups.proofs.Values.{mean_least, mean_most, one_max, mean_same}
 
 rows_length : (widths rs fs : List ℕ) (w : Fraction) → length (rows widths rs fs w) ≡ length rs
@@ -48,7 +48,7 @@ row_length widths rs fs j e h =
 
 grid_nat : (R S A B s t : ℕ) (hs : 0 < s) (h : 0 < 1000 * s * t) → max 1 (A + B) ≡ t → Same (record { num = R * A + S * B; den = 1000 * s * t; pos = h }) (((record { num = R; den = s; pos = hs }) ⊗ whole A ⊕ (record { num = S; den = s; pos = hs }) ⊗ whole B) ⊘ whole (A + B) ⊘ whole 1000)
 unfolding ◌⊕◌ ◌⊗◌ ◌⊘◌ whole
-grid_nat R S A B s t hs h e = same_by (rw e (omega arith))
+grid_nat R S A B s t hs h e = same.by_parts (rw e (omega arith))
 
 module _ (widths ratios fs : List ℕ) (full : length fs ≡ length ratios * length widths) where
   -- the weighted sum of row j is its value, times the whole weight
@@ -56,7 +56,7 @@ module _ (widths ratios fs : List ℕ) (full : length fs ≡ length ratios * len
   unfolding mix
   one_row w c fw cf cs j h R e =
       rw (e, rows_at widths ratios fs w j h)
-      (same_trans
+      (same.trans
       (rw (row_at widths fs j c.first cf, row_at widths fs j c.second cs) (mean_same (get_or fs (j * length widths + c.first) 0) (get_or fs (j * length widths + c.second) 0) c.after c.before (c.after + c.before) c.positive (one_max (c.after + c.before) c.positive)))
       (fw (row_of widths fs j) (row_length widths ratios fs j full h)))
 
@@ -64,14 +64,14 @@ module _ (widths ratios fs : List ℕ) (full : length fs ≡ length ratios * len
   pub support_same : (w m : Fraction) (c d : Cell) → Finds widths (w ⊗ whole 100) c → Finds ratios (m ⊗ whole 1000) d → c.first < length widths → c.second < length widths → d.first < length ratios → d.second < length ratios → (R S : ℕ) → R ≡ get_or fs (d.first * length widths + c.first) 0 * c.after + get_or fs (d.first * length widths + c.second) 0 * c.before → S ≡ get_or fs (d.second * length widths + c.first) 0 * c.after + get_or fs (d.second * length widths + c.second) 0 * c.before → (h : 0 < 1000 * (c.after + c.before) * (d.after + d.before)) → Same (record { num = R * d.after + S * d.before; den = 1000 * (c.after + c.before) * (d.after + d.before); pos = h }) (support_at widths ratios fs w m)
   unfolding support_at mix
   support_same w m c d fw fm cf cs df ds R S r s h =
-      same_trans
+      same.trans
       (grid_nat R S d.after d.before (c.after + c.before) (d.after + d.before) c.positive h (one_max (d.after + d.before) d.positive))
-      (same_over_by (whole 1000)
-      (same_trans
-      (same_over_by (whole (d.after + d.before))
-      (same_plus
-      (same_times (one_row (w ⊗ whole 100) c fw cf cs d.first df R r) (same_refl (whole d.after)))
-      (same_times (one_row (w ⊗ whole 100) c fw cf cs d.second ds S s) (same_refl (whole d.before)))))
+      (same.over_one (whole 1000)
+      (same.trans
+      (same.over_one (whole (d.after + d.before))
+      (same.plus
+      (same.times (one_row (w ⊗ whole 100) c fw cf cs d.first df R r) (same.refl (whole d.after)))
+      (same.times (one_row (w ⊗ whole 100) c fw cf cs d.second ds S s) (same.refl (whole d.before)))))
       (fm (rows widths ratios fs (w ⊗ whole 100)) (rows_length widths ratios fs (w ⊗ whole 100)))))
 
 -- the place of a row's element
@@ -102,11 +102,11 @@ weighed R S A B s r1 r2 s1 s2 = (omega (arith, mul-le-mul_right A r1, mul-le-mul
 -- the two ratios as the lookups take them
 pub width_same : (r : Fraction) (b o : ℕ) → 0 < o → r.num ≡ 100 * b → r.den ≡ o → Same r ((whole b ⊘ whole o) ⊗ whole 100)
 unfolding ◌⊗◌ ◌⊘◌ whole
-width_same r b o h e f = same_by (rw (e, f, one_max o h) (omega arith))
+width_same r b o h e f = same.by_parts (rw (e, f, one_max o h) (omega arith))
 
 pub modulus_same : (r : Fraction) (n : ℕ) (m : Fraction) → 0 < m.num → r.num ≡ 1000 * n * m.den → r.den ≡ m.num → Same r ((whole n ⊘ m) ⊗ whole 1000)
 unfolding ◌⊗◌ ◌⊘◌ whole
-modulus_same r n m h e f = same_by (rw (e, f, one_max m.num h) (omega arith))
+modulus_same r n m h e f = same.by_parts (rw (e, f, one_max m.num h) (omega arith))
 
 -- the weighted sum of a row lies between the bounds of its factors
 pub row_bounds : (g : SupportGrid) (j : ℕ) (c : Cell) → j < length (grid_ratios g) → c.first < length (grid_widths g) → c.second < length (grid_widths g) → (c.after + c.before ≤ row_sum (grid_factors g) (j * length (grid_widths g)) c) × (row_sum (grid_factors g) (j * length (grid_widths g)) c ≤ 2000 * (c.after + c.before))
@@ -120,4 +120,4 @@ row_bounds g j c h f s =
 pub found_factor : (g : SupportGrid) (w m : Fraction) (r : Ratio) (c d : Cell) → Finds (grid_widths g) (w ⊗ whole 100) c → Finds (grid_ratios g) (m ⊗ whole 1000) d → c.first < length (grid_widths g) → c.second < length (grid_widths g) → d.first < length (grid_ratios g) → d.second < length (grid_ratios g) → r.num ≡ row_sum (grid_factors g) (d.first * length (grid_widths g)) c * d.after + row_sum (grid_factors g) (d.second * length (grid_widths g)) c * d.before → r.den ≡ 1000 * (c.after + c.before) * (d.after + d.before) → Same (value r) (support_at (grid_widths g) (grid_ratios g) (grid_factors g) w m)
 found_factor g w m r c d fc fd cf cs df ds n k =
     let h : 0 < 1000 * (c.after + c.before) * (d.after + d.before) = rw (← k) r.positive in
-    same_trans (same_by (rw (n, k))) (support_same (grid_widths g) (grid_ratios g) (grid_factors g) (gridded g).full w m c d fc fd cf cs df ds _ _ refl refl h)
+    same.trans (same.by_parts (rw (n, k))) (support_same (grid_widths g) (grid_ratios g) (grid_factors g) (gridded g).full w m c d fc fd cf cs df ds _ _ refl refl h)

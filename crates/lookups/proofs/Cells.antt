@@ -1,6 +1,6 @@
 -- The cell of a line.
-use mathlib.Core.Path.{◌≡◌, sym, ◌∙◌, ap}
-use mathlib.Core.Bool.{cond}
+use mathlib.Core.Path.{◌≡◌, sym, ◌∙◌, ap, subst}
+use mathlib.Core.Bool.{Bool, true, false, cond}
 use mathlib.Core.List.{List, [], ◌∷◌, map}
 use Prim.Native.Nat.{ℕ, zero, suc, ◌+◌, ◌-◌, ◌*◌, ◌≤◌, ◌<◌, max}
 use native.Mathlib.Nat.{not-suc-le-zero, le_of_suc-le-suc, mul-le-mul, lt_of_mul-lt-mul_right}
@@ -12,32 +12,39 @@ use Rattle.std.specs.List.{AllWithin, HoldsAt}
 use lib.Seq.{drop-cons}
 use Rattle.fraction.specs.Fraction.{Fraction, Same, whole, ◌⊕◌, ◌⊗◌, ◌⊘◌, ◌⊖◌}
 use Rattle.fraction.specs.Ratio.{at_most}
+use Rattle.fraction.proofs.Sames as same
 use Rattle.lookups.specs.Cell.{mix, Finds}
 use Rattle.lookups.specs.Line.{chord, line_from, line_at}
 use Rattle.lookups.specs.declared.cell.Cell.{Cell}
-use Rattle.lookups.proofs.Same.{same_by, same_refl, same_trans, same_plus, same_times, same_monus, same_over_by, same_to, test_same, cond_same}
+
+same_to : {x y z : Fraction} → Same x y → y ≡ z → Same x z
+same_to {x} h e = subst (λ (w : Fraction). Same x w) e h
+
+cond_same : (b c : Bool) {u v y z : Fraction} → b ≡ c → Same u y → Same v z → Same (cond b u v) (cond c y z)
+cond_same true c e h k = rw (← e) h
+cond_same false c e h k = rw (← e) k
 
 -- equal fractions have equal values on a line, so that a cell serves both
 chord_cong : (x1 : ℕ) (y1 : Fraction) (x2 : ℕ) (y2 : Fraction) {x y : Fraction} → Same x y → Same (chord x1 y1 x2 y2 x) (chord x1 y1 x2 y2 y)
 unfolding chord
 chord_cong x1 y1 x2 y2 h =
-    same_over_by (whole x2 ⊖ whole x1)
-    (same_plus (same_times (same_refl y1) (same_monus (same_refl (whole x2)) h)) (same_times (same_refl y2) (same_monus h (same_refl (whole x1)))))
+    same.over_one (whole x2 ⊖ whole x1)
+    (same.plus (same.times (same.refl y1) (same.excess (same.refl (whole x2)) h)) (same.times (same.refl y2) (same.excess h (same.refl (whole x1)))))
 
 from_cong : (x1 : ℕ) (y1 : Fraction) (xs : List ℕ) (ys : List Fraction) {x y : Fraction} → Same x y → Same (line_from x1 y1 xs ys x) (line_from x1 y1 xs ys y)
-from_cong x1 y1 [] ys h = same_refl y1
-from_cong x1 y1 (x2 ∷ xs) [] h = same_refl y1
+from_cong x1 y1 [] ys h = same.refl y1
+from_cong x1 y1 (x2 ∷ xs) [] h = same.refl y1
 from_cong x1 y1 (x2 ∷ xs) (y2 ∷ ys) {x} {y} h =
-    cond_same (at_most x (whole x2)) (at_most y (whole x2)) (test_same (whole x2) h) (chord_cong x1 y1 x2 y2 h) (from_cong x2 y2 xs ys h)
+    cond_same (at_most x (whole x2)) (at_most y (whole x2)) (same.test_along (whole x2) h) (chord_cong x1 y1 x2 y2 h) (from_cong x2 y2 xs ys h)
 
 pub line_cong : (xs : List ℕ) (ys : List Fraction) {x y : Fraction} → Same x y → Same (line_at xs ys x) (line_at xs ys y)
-line_cong [] ys h = same_refl (whole 0)
-line_cong (x1 ∷ xs) [] h = same_refl (whole 0)
+line_cong [] ys h = same.refl (whole 0)
+line_cong (x1 ∷ xs) [] h = same.refl (whole 0)
 line_cong (x1 ∷ xs) (y1 ∷ ys) {x} {y} h =
-    cond_same (at_most x (whole x1)) (at_most y (whole x1)) (test_same (whole x1) h) (same_refl y1) (from_cong x1 y1 xs ys h)
+    cond_same (at_most x (whole x1)) (at_most y (whole x1)) (same.test_along (whole x1) h) (same.refl y1) (from_cong x1 y1 xs ys h)
 
 pub finds_at : (xs : List ℕ) (c : Cell) {x y : Fraction} → Same x y → Finds xs x c → Finds xs y c
-finds_at xs c h f ys e = same_trans (f ys e) (line_cong xs ys h)
+finds_at xs c h f ys e = same.trans (f ys e) (line_cong xs ys h)
 
 -- weights in proportion to the distances
 chord_nat : (a A b B c e d W : ℕ) → (a * A * (e * 1) + b * B * (c * 1)) * 1 * (c * (1 * d) * (e * (d * 1)) * W) ≡ (a * A * (e * (d * 1)) + b * B * (c * (1 * d))) * (1 * 1) * (c * 1 * (e * 1) * (W * d))
@@ -52,7 +59,7 @@ chord_same x1 x2 y1 y2 x A B W a b w pos =
     let em : max 1 W ≡ W = omega arith in
     let ed : 1 ≤ W * x.den = mul-le-mul pos x.pos in
     let es : max 1 (A + B) ≡ W * x.den = sum_is ed in
-    same_by (rw (ea, eb, ew, em, es) (chord_nat y1.num A y2.num B y1.den y2.den x.den W))
+    same.by_parts (rw (ea, eb, ew, em, es) (chord_nat y1.num A y2.num B y1.den y2.den x.den W))
   where
     sum_is : 1 ≤ W * x.den → max 1 (A + B) ≡ W * x.den
     sum_is h =
@@ -62,7 +69,7 @@ chord_same x1 x2 y1 y2 x A B W a b w pos =
 -- a cell at one point has its value
 level_mix : (k : ℕ) (c : Cell) → (c.first ≡ k) × (c.second ≡ k) → (c.after ≡ 1) × (c.before ≡ 0) → (ys : List Fraction) → Same (mix c ys) (get_or ys k (whole 0))
 unfolding mix ◌⊕◌ ◌⊗◌ ◌⊘◌ whole
-level_mix k c p w ys = same_by (rw (p.0, p.1, w.0, w.1) (omega arith))
+level_mix k c p w ys = same.by_parts (rw (p.0, p.1, w.0, w.1) (omega arith))
 
 -- between x1 and x2, the products standing in variables
 cell_found : (x1 x2 i : ℕ) (x : Fraction) (low high : ℕ) (c : Cell) → low ≡ x1 * x.den → high ≡ x2 * x.den → low < x.num → x.num ≤ high → c.first ≡ i - 1 → c.second ≡ i → c.after ≡ high - x.num → c.before ≡ x.num - low → (ys : List Fraction) → Same (mix c ys) (chord x1 (get_or ys (i - 1) (whole 0)) x2 (get_or ys i (whole 0)) x)

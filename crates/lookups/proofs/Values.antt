@@ -6,6 +6,7 @@ use native.Mathlib.Nat.{mul-le-mul_right}
 use native.Mathlib.Omega.{arith}
 use lib.ListN.{length, get_or, length-map, get_or-map}
 use Rattle.fraction.specs.Fraction.{Fraction, Same, whole, ◌⊕◌, ◌⊗◌, ◌⊘◌}
+use Rattle.fraction.proofs.Sames as same
 use Rattle.lookups.specs.Cell.{mix, Finds}
 use Rattle.lookups.specs.Lookup.{curve_at}
 use Rattle.lookups.specs.declared.cell.Cell.{Cell}
@@ -16,7 +17,6 @@ use Rattle.records.specs.declared.curve.CurveKind.{Ghosts}
 use Rattle.records.specs.Lines.{points_of}
 use Rattle.records.proofs.CurveLines.{nil, Kept, points_kept}
 use Rattle.lookups.proofs.Cells.{line_cong}
-use Rattle.lookups.proofs.Same.{same_by, same_trans, same_over_by}
 
 -- y A + z B lies between the bounds of y and z
 pub mean_least : (k y z A B : ℕ) → k ≤ y → k ≤ z → k * (A + B) ≤ y * A + z * B
@@ -47,7 +47,7 @@ one_max n h = omega arith
 
 pub mean_same : (y z A B s : ℕ) (h : 0 < s) → max 1 (A + B) ≡ s → Same (record { num = y * A + z * B; den = s; pos = h }) ((whole y ⊗ whole A ⊕ whole z ⊗ whole B) ⊘ whole (A + B))
 unfolding ◌⊕◌ ◌⊗◌ ◌⊘◌ whole
-mean_same y z A B s h e = same_by (rw e (omega arith))
+mean_same y z A B s h e = same.by_parts (rw e (omega arith))
 
 pub places_at : (ps : List Point) (k : ℕ) → get_or (map (λ p. p.x) ps) k 0 ≡ (get_or ps k nil).x
 places_at ps k = get_or-map (λ p. p.x) ps k nil
@@ -58,7 +58,7 @@ heights_at ps k = get_or-map (λ p. whole p.y) ps k nil
 pub value_same : (ps : List Point) (x : Fraction) (c : Cell) → Finds (map (λ p. p.x) ps) x c → (h : 0 < c.after + c.before) → Same (record { num = (get_or ps c.first nil).y * c.after + (get_or ps c.second nil).y * c.before; den = c.after + c.before; pos = h }) (curve_at ps x)
 unfolding mix
 value_same ps x c f h =
-    same_trans
+    same.trans
     (rw (heights_at ps c.first, heights_at ps c.second) (mean_same (get_or ps c.first nil).y (get_or ps c.second nil).y c.after c.before (c.after + c.before) h (one_max (c.after + c.before) c.positive)))
     (f (map (λ p. whole p.y) ps) (length-map ps (λ p. whole p.y) ∙ sym (length-map ps (λ p. p.x))))
 
@@ -76,16 +76,16 @@ curve_fits rs ps k b c f s d l m =
 -- hundredths
 pub hundred_times : (r p : Fraction) → r.num ≡ 100 * p.num → r.den ≡ p.den → Same r (p ⊗ whole 100)
 unfolding ◌⊗◌ whole
-hundred_times r p e f = same_by (rw (e, f) (omega arith))
+hundred_times r p e f = same.by_parts (rw (e, f) (omega arith))
 
 pub hundredth_times : (r s : Fraction) → r.num ≡ s.num → 100 * r.den ≡ s.den → Same r (s ⊗ whole 100)
 unfolding ◌⊗◌ whole
-hundredth_times r s e f = same_by (rw (e, ← f) (omega arith))
+hundredth_times r s e f = same.by_parts (rw (e, ← f) (omega arith))
 
 pub over_hundred : (r x y : Fraction) → r.num ≡ x.num → r.den ≡ 100 * x.den → Same x y → Same r (y ⊘ whole 100)
 unfolding ◌⊘◌ whole
-over_hundred r x y e f h = same_trans (same_by (rw (e, f) (omega arith))) (same_over_by (whole 100) h)
+over_hundred r x y e f h = same.trans (same.by_parts (rw (e, f) (omega arith))) (same.over_one (whole 100) h)
 
 -- the operand is the same number
 pub curve_moved : (ps : List Point) (r x y : Fraction) → Same x y → Same r (curve_at ps x) → Same r (curve_at ps y)
-curve_moved ps r x y h k = same_trans k (line_cong (map (λ p. p.x) ps) (map (λ p. whole p.y) ps) h)
+curve_moved ps r x y h k = same.trans k (line_cong (map (λ p. p.x) ps) (map (λ p. whole p.y) ps) h)

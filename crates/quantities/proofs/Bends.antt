@@ -9,7 +9,6 @@ use Rattle.enclosure.specs.Formula.{computed}
 use Rattle.enclosure.proofs.Trees.{as_tree, field, long, closed}
 use Rattle.lookups.specs.Lookup.{shape_at}
 use Rattle.lookups.proofs.Cells.{line_cong}
-use Rattle.lookups.proofs.Same.{same_over_by}
 use Rattle.equations.specs.Design.{Design}
 use Rattle.equations.specs.Bending.{pipe_stiffness, shape_factor, farther_face}
 use Rattle.equations.specs.Regrouped.{face_units, centroid_cube}
@@ -37,7 +36,7 @@ module _ (d : Design) where
   pub shape_same : (f : Ratio) (x : Fraction) → Same x (pipe_stiffness d) → Same (value f) (shape_at d.shape x) → Same (value f) (shape_factor d)
   unfolding shape_factor
   shape_same f x here found =
-      same.trans found (same_over_by (whole 100) (line_cong (map (λ q. q.x) d.shape) (map (λ q. whole q.y) d.shape) (same.times here (same.refl (whole 100)))))
+      same.trans found (same.over_one (whole 100) (line_cong (map (λ q. q.x) d.shape) (map (λ q. whole q.y) d.shape) (same.times here (same.refl (whole 100)))))
 
   module _ {E : Type 0} {m : Model E} (s : Sound m) where
     shape_known : (f : Ratio) → f.den ≤ f.num → f.num ≤ 10 * f.den → f.den ≤ 10 ^ 25 → Same (value f) (shape_factor d) → Known m 9 1 1 10 1 (shape_factor d) (long_parts_of (computed m) f.num f.den)

@@ -13,7 +13,6 @@ use Rattle.lookups.specs.Lookup.{modulus_at, rows, support_at}
 use Rattle.lookups.specs.Operand.{modulus_of}
 use Rattle.lookups.specs.declared.operand.Modulus.{Modulus}
 use Rattle.lookups.proofs.Cells.{line_cong}
-use Rattle.lookups.proofs.Same.{same_by, same_over_by}
 use Rattle.equations.specs.Design.{Design}
 use Rattle.equations.specs.Soil.{embedment_modulus, fully_supported, support_factor, soil_modulus}
 use Rattle.equations.specs.Regrouped.{Drained, prism_units}
@@ -37,7 +36,7 @@ never_full d h k = le-ltb d.site.fill 120000 k ∙ sym ((all_regroup d).full ∙
 -- a quotient of whole numbers as a pair of them
 pub pair_same : (n k : ℕ) (pos : 0 < k) → Same (whole n ⊘ whole k) (record { num = n; den = k; pos = pos })
 unfolding ◌⊘◌ whole
-pair_same n k pos = same_by (rw (order.one_max k pos) (omega arith))
+pair_same n k pos = same.by_parts (rw (order.one_max k pos) (omega arith))
 
 pub at_least_pair : (a b n k : ℕ) (p : 0 < b) → 0 < k → a * k ≤ n * b → ratio a b p ≼ whole n ⊘ whole k
 unfolding ratio ◌⊘◌ whole
@@ -62,13 +61,13 @@ unfolding support_factor support_at
 support_same d r f embedment part found =
     rw (← part)
     (same.trans found
-    (same_over_by (whole 1000)
+    (same.over_one (whole 1000)
     (line_cong d.ratios (rows d.widths d.ratios d.factors ((whole d.site.trench ⊘ whole d.section.outside) ⊗ whole 100))
     (same.times (same.over (modulus_positive r) (same.refl (whole d.site.native_modulus)) embedment) (same.refl (whole 1000))))))
 
 times_one : (x : Fraction) → Same x (whole 1 ⊗ x)
 unfolding ◌⊗◌ whole
-times_one x = same_by (omega arith)
+times_one x = same.by_parts (omega arith)
 
 module _ {E : Type 0} {m : Model E} (s : Sound m) (d : Design) where
   embedment_known : (r : Modulus) → Known m 3 50 1 50000 1 (whole r.num ⊘ whole r.den) (parts_of (computed m) r.num r.den)
