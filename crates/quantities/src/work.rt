@@ -1,7 +1,7 @@
 ghost use Rattle.std.specs.Prelude.{◌≡◌, option_map};
 ghost use Rattle.enclosure.specs.Formula.{computed};
 ghost use Rattle.quantities.specs.Case.{design_of};
-ghost use Rattle.quantities.specs.Formulas.{plus_of, live_part_of};
+ghost use Rattle.quantities.specs.Formulas.{strain_of, live_part_of};
 ghost use Rattle.quantities.specs.Quantities.{Hoop};
 ghost use Rattle.quantities.specs.Worked.{LiveKnown, WorkedKnown};
 
@@ -18,7 +18,7 @@ use crate::worked::{Live, Worked};
 use enclosure::Arithmetic;
 
 fn strain<A: Arithmetic>(thrust: A, modulus: A, live: Option<A>, area: A) -> A
-    ensures { result ≡ A.model.quotient (plus_of (computed A.model) (A.model.quotient thrust modulus) live) area }
+    ensures { result ≡ strain_of (computed A.model) thrust modulus live area }
 {
     plus(thrust.div(modulus), live).div(area)
 }
