@@ -6,7 +6,7 @@ use Rattle.std.proofs.lemmas.Bool.{ne_eqb, cases_eq}
 use Rattle.std.specs.Option.{option_map}
 use Rattle.book.specs.Register.{Row, in_place, place_refusal}
 use Rattle.book.specs.Shelves.{lines}
-use Rattle.records.specs.Cause.{Refusal, refusal, first}
+use Rattle.records.specs.Cause.{refusal}
 use Rattle.records.specs.declared.fault.Cause.TheVariants.{Place}
 
 -- what a write to a shelf does to its lines
@@ -35,8 +35,3 @@ others l place other held p h =
 -- a place that is not refused
 pub from_one : (f n place : ℕ) → None ≡ place_refusal f n place → 1 ≤ place
 from_one f n place e = elim (cases_eq place 0) [ inl z ↦ let q : ◌≡◌ {A = ℕ} 0 1 = let r : None ≡ Some (refusal Place f) = rw z at e in cc in absurd (omega arith) | inr z ↦ omega arith ]
-
--- neither of two refusals
-pub neither : (a b : Option Refusal) → None ≡ a → None ≡ b → None ≡ first a b
-neither None b e f = f
-neither (Some r) b e f = e

@@ -1,6 +1,6 @@
 ghost use Rattle.std.specs.Prelude.{◌≡◌, Some, None, MatchResult, OnOk};
 ghost use Rattle.std.specs.Option.{option_map};
-ghost use Rattle.book.specs.Register.{fresh, entered, withdrawn, after_withdrawal, numbered, entry_refusal, removal_refusal, withdrawal_refusal, standing};
+ghost use Rattle.book.specs.Register.{fresh, entered, after_withdrawal, numbered, entry_refusal, withdrawal_refusal, standing};
 ghost use Rattle.book.specs.Law.{Changed, Emptied};
 ghost use Rattle.book.specs.Shelves.{register_of};
 ghost use Rattle.records.specs.Cause.{refused};
@@ -78,8 +78,8 @@ impl Book {
         shelf::held_at(T::shelf(self), place)
     }
 
-    // A book derives no Drop, by a rule of the project: so no program loses one by accident.
     /// Lets the book go, with its records.
+    // A book derives no Drop, by a rule of the project: so no program loses one by accident.
     pub fn discard(self) {
         let Book {
             sections: _,

@@ -11,8 +11,8 @@ pub struct CasePlaces {
     pub site: u64,
 }
 
-// A number, and no Figure: one that names no figure is a call too, and the sitting refuses it.
 /// A figure of a case, by its number.
+// A number, and no Figure: one that names no figure is a call too, and the sitting refuses it.
 #[derive(Clone, Copy, PartialEq, Eq, Debug)]
 pub struct Reading {
     pub case: CasePlaces,
@@ -28,8 +28,8 @@ pub enum Call<R: Drop> {
         place: u64,
         fields: Vec<u64>,
     },
-    // A number, and no Kind: one that names no kind is a call too, and the book refuses it.
     /// Empties a place of the kind of this number.
+    // A number, and no Kind: one that names no kind is a call too, and the book refuses it.
     Withdraw {
         kind: u64,
         place: u64,

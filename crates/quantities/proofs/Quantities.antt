@@ -17,7 +17,7 @@ use Rattle.equations.specs.Deflection.{resistance, soil_deflection, live_deflect
 use Rattle.equations.proofs.Arching.{arching_parts}
 use Rattle.quantities.specs.Known.{Known, Perhaps}
 use Rattle.quantities.specs.Quantities.{Diameter, Area, Modulus, Moment, Fill, Prism, Water, Live, LiveLength, Soil, Hoop, Arching, LoadFactor, Thrust, LengthShare, LiveThrust, LivePart, Strain, Bending, Deflects}
-use Rattle.quantities.specs.Formulas.{parts_of, plus_of, live_length_of, hoop_stiffness_of, arching_of, load_factor_of, length_share_of, spread_factor_of, hoop_factor_of, live_thrust_of, factored_thrust_of, thrust_of, live_part_of, bending_factor_of, resistance_of, soil_deflection_of, live_deflection_of}
+use Rattle.quantities.specs.Formulas.{parts_of, plus_of, live_length_of, hoop_stiffness_of, arching_of, load_factor_of, length_share_of, spread_factor_of, hoop_factor_of, live_thrust_of, factored_thrust_of, thrust_of, design_thrust_of, least_thrust_of, service_thrust_of, live_part_of, strain_of, bending_factor_of, resistance_of, soil_deflection_of, live_deflection_of}
 use Rattle.quantities.proofs.Known.{leaf, known, known_along, meets}
 
 -- what is 0 adds nothing
@@ -72,21 +72,21 @@ module _ {E : Type 0} {m : Model E} (s : Sound m) where
     live_thrust_known None l Do Di sh cl pl =
         zero_over (length_share d ⊗ spread_factor d ⊗ hoop_factor d ⊗ live_pressure d ⊗ outside_diameter d) (whole 2) (zero_times (length_share d ⊗ spread_factor d ⊗ hoop_factor d ⊗ live_pressure d) (outside_diameter d) (times_zero (length_share d ⊗ spread_factor d ⊗ hoop_factor d) (live_pressure d) pl))
 
-    pub design_thrust_known : {g vaf psp Do : E} (pw : Option E) → LoadFactor m d g → Arching m d vaf → Prism m d psp → Water m d pw → Diameter m d (outside_diameter d) Do → Thrust m d (design_thrust d) (factored_thrust_of (computed m) (plus_of (computed m) ((computed m).mul ((computed m).mul g vaf) psp) pw) Do)
+    pub design_thrust_known : {g vaf psp Do : E} (pw : Option E) → LoadFactor m d g → Arching m d vaf → Prism m d psp → Water m d pw → Diameter m d (outside_diameter d) Do → Thrust m d (design_thrust d) (design_thrust_of (computed m) g vaf psp pw Do)
     unfolding design_thrust
     design_thrust_known pw g vaf psp w Do =
         let earth = known s ((as_tree m).mul ((as_tree m).mul (leaf g) (leaf vaf)) (leaf psp)) 60 1 200 900 1 tt in
         let all = plus_known {k = 20} {e = 1} {f = 100000} {g = 100} {h = 1} 61 1 200 1000 1 (water_pressure d) pw earth w (λ v q. tt) tt in
         known s (factored_thrust_of (as_tree m) (leaf all) (leaf Do)) 80 1 1000 (10 ^ 5) 1 tt
 
-    pub least_thrust_known : {vaf psp Do : E} (pw : Option E) → Arching m d vaf → Prism m d psp → Water m d pw → Diameter m d (outside_diameter d) Do → Thrust m d (least_thrust d) (thrust_of (computed m) (plus_of (computed m) ((computed m).mul ((computed m).mul (parts_of (computed m) 54 100) vaf) psp) pw) Do)
+    pub least_thrust_known : {vaf psp Do : E} (pw : Option E) → Arching m d vaf → Prism m d psp → Water m d pw → Diameter m d (outside_diameter d) Do → Thrust m d (least_thrust d) (least_thrust_of (computed m) vaf psp pw Do)
     unfolding least_thrust
     least_thrust_known pw vaf psp w Do =
         let earth = known s ((as_tree m).mul ((as_tree m).mul (parts_of (as_tree m) 54 100) (leaf vaf)) (leaf psp)) 60 1 500 900 1 tt in
         let all = plus_known {k = 20} {e = 1} {f = 100000} {g = 100} {h = 1} 61 1 500 1000 1 (water_pressure d) pw earth w (λ v q. tt) tt in
         known s (thrust_of (as_tree m) (leaf all) (leaf Do)) 80 1 1000 (10 ^ 5) 1 tt
 
-    pub service_thrust_known : {vaf psp Do : E} (pw : Option E) → Arching m d vaf → Prism m d psp → Water m d pw → Diameter m d (outside_diameter d) Do → Thrust m d (service_thrust d) (thrust_of (computed m) (plus_of (computed m) ((computed m).mul vaf psp) pw) Do)
+    pub service_thrust_known : {vaf psp Do : E} (pw : Option E) → Arching m d vaf → Prism m d psp → Water m d pw → Diameter m d (outside_diameter d) Do → Thrust m d (service_thrust d) (service_thrust_of (computed m) vaf psp pw Do)
     unfolding service_thrust
     service_thrust_known pw vaf psp w Do =
         let earth = known s ((as_tree m).mul (leaf vaf) (leaf psp)) 60 1 200 900 1 tt in
@@ -99,7 +99,7 @@ module _ {E : Type 0} {m : Model E} (s : Sound m) where
     live_part_known (Some q) ev t = known s (live_part_of (as_tree m) (leaf t) (leaf ev)) 160 1 (10 ^ 16) 1000 1 tt
     live_part_known None ev t = zero_over (hundredths 175 ⊗ live_thrust d) (live_modulus d) (times_zero (hundredths 175) (live_thrust d) t)
 
-    pub strain_known : {t elt area : E} (x y A : Fraction) (p : Option E) → Thrust m d x t → Modulus m d (long_modulus d) elt → Perhaps m 160 1 (10 ^ 16) 1000 1 y p → Area m d A area → Strain m d ((x ⊘ long_modulus d ⊕ y) ⊘ A) ((computed m).div (plus_of (computed m) ((computed m).div t elt) p) area)
+    pub strain_known : {t elt area : E} (x y A : Fraction) (p : Option E) → Thrust m d x t → Modulus m d (long_modulus d) elt → Perhaps m 160 1 (10 ^ 16) 1000 1 y p → Area m d A area → Strain m d ((x ⊘ long_modulus d ⊕ y) ⊘ A) (strain_of (computed m) t elt p area)
     strain_known x y A p t elt lp area =
         let earth = known s ((as_tree m).div (leaf t) (leaf elt)) 90 1 (10 ^ 9) 100 1 tt in
         let all = plus_known {k = 160} {e = 1} {f = 10 ^ 16} {g = 1000} {h = 1} 161 1 (10 ^ 9) 1100 1 y p earth lp (λ v q. tt) tt in
@@ -135,14 +135,14 @@ module _ {E : Type 0} {m : Model E} (s : Sound m) where
         let both = plus_known {k = 120} {e = 1} {f = 10 ^ 15} {g = 10 ^ 8} {h = 1} 121 1 (10 ^ 11) (2 * 10 ^ 8) 1 (live_deflection d) dl ds l (λ v q. tt) tt in
         known s ((as_tree m).add (leaf both) ((as_tree m).mul (leaf D) (leaf es))) 300 1 (10 ^ 10) (10 ^ 9) 1 tt
 
-    pub thrust_strain_known : {t elt area : E} (p : Option E) → Thrust m d (design_thrust d) t → Modulus m d (long_modulus d) elt → LivePart m d p → Area m d (effective_area d) area → Strain m d (thrust_strain d) ((computed m).div (plus_of (computed m) ((computed m).div t elt) p) area)
+    pub thrust_strain_known : {t elt area : E} (p : Option E) → Thrust m d (design_thrust d) t → Modulus m d (long_modulus d) elt → LivePart m d p → Area m d (effective_area d) area → Strain m d (thrust_strain d) (strain_of (computed m) t elt p area)
     unfolding thrust_strain
     thrust_strain_known p t elt lp area = strain_known (design_thrust d) (live_part d) (effective_area d) p t elt lp area
 
-    pub least_strain_known : {t elt area : E} (p : Option E) → Thrust m d (least_thrust d) t → Modulus m d (long_modulus d) elt → LivePart m d p → Area m d (effective_area d) area → Strain m d (least_strain d) ((computed m).div (plus_of (computed m) ((computed m).div t elt) p) area)
+    pub least_strain_known : {t elt area : E} (p : Option E) → Thrust m d (least_thrust d) t → Modulus m d (long_modulus d) elt → LivePart m d p → Area m d (effective_area d) area → Strain m d (least_strain d) (strain_of (computed m) t elt p area)
     unfolding least_strain
     least_strain_known p t elt lp area = strain_known (least_thrust d) (live_part d) (effective_area d) p t elt lp area
 
-    pub service_strain_known : {t elt area : E} (p : Option E) → Thrust m d (service_thrust d) t → Modulus m d (long_modulus d) elt → Perhaps m 160 1 (10 ^ 16) 1000 1 (live_thrust d ⊘ live_modulus d) p → Area m d (gross_area d) area → Strain m d (service_strain d) ((computed m).div (plus_of (computed m) ((computed m).div t elt) p) area)
+    pub service_strain_known : {t elt area : E} (p : Option E) → Thrust m d (service_thrust d) t → Modulus m d (long_modulus d) elt → Perhaps m 160 1 (10 ^ 16) 1000 1 (live_thrust d ⊘ live_modulus d) p → Area m d (gross_area d) area → Strain m d (service_strain d) (strain_of (computed m) t elt p area)
     unfolding service_strain
     service_strain_known p t elt lp area = strain_known (service_thrust d) (live_thrust d ⊘ live_modulus d) (gross_area d) p t elt lp area

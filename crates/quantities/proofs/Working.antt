@@ -9,7 +9,7 @@ use Rattle.equations.specs.LiveLoad.{live_modulus}
 use Rattle.equations.specs.Thrust.{live_thrust, design_thrust, least_thrust, service_thrust}
 use Rattle.equations.specs.Strains.{live_part, thrust_strain, least_strain, service_strain}
 use Rattle.quantities.specs.Known.{Perhaps}
-use Rattle.quantities.specs.Formulas.{parts_of, plus_of, live_length_of, hoop_stiffness_of, load_factor_of, length_share_of, spread_factor_of, hoop_factor_of, live_thrust_of, factored_thrust_of, thrust_of, live_part_of, resistance_of, soil_deflection_of, live_deflection_of}
+use Rattle.quantities.specs.Formulas.{parts_of, live_length_of, hoop_stiffness_of, load_factor_of, length_share_of, spread_factor_of, hoop_factor_of, live_thrust_of, design_thrust_of, least_thrust_of, service_thrust_of, live_part_of, strain_of, deflection_of}
 use Rattle.quantities.specs.Measured.{Measured}
 use Rattle.quantities.specs.Quantities.{Prism, Water, Soil, Hoop, Arching, LoadFactor, Thrust, LiveThrust, LivePart, Strain, Deflects, Live as LivePressure}
 use Rattle.quantities.specs.Worked.{LiveKnown}
@@ -37,13 +37,13 @@ module _ {E : Type 0} {m : Model E} (s : Sound m) (d : Design) (p : Measures E) 
       }
 
   module _ (prism arching : E) (water : Option E) (psp : Prism m d prism) (vaf : Arching m d arching) (pw : Water m d water) where
-    pub design_step : (load e : E) → e ≡ factored_thrust_of (computed m) (plus_of (computed m) (m.product (m.product load arching) prism) water) p.outside → LoadFactor m d load → Thrust m d (design_thrust d) e
+    pub design_step : (load e : E) → e ≡ design_thrust_of (computed m) load arching prism water p.outside → LoadFactor m d load → Thrust m d (design_thrust d) e
     design_step load e h g = known_at h (quantities.design_thrust_known s d water g vaf psp pw k.outside)
 
-    pub least_step : (e : E) → e ≡ thrust_of (computed m) (plus_of (computed m) (m.product (m.product (parts_of (computed m) 54 100) arching) prism) water) p.outside → Thrust m d (least_thrust d) e
+    pub least_step : (e : E) → e ≡ least_thrust_of (computed m) arching prism water p.outside → Thrust m d (least_thrust d) e
     least_step e h = known_at h (quantities.least_thrust_known s d water vaf psp pw k.outside)
 
-    pub service_step : (e : E) → e ≡ thrust_of (computed m) (plus_of (computed m) (m.product arching prism) water) p.outside → Thrust m d (service_thrust d) e
+    pub service_step : (e : E) → e ≡ service_thrust_of (computed m) arching prism water p.outside → Thrust m d (service_thrust d) e
     service_step e h = known_at h (quantities.service_thrust_known s d water vaf psp pw k.outside)
 
   module _ (thrust : Option E) (q : LiveThrust m d thrust) where
@@ -53,16 +53,16 @@ module _ {E : Type 0} {m : Model E} (s : Sound m) (d : Design) (p : Measures E) 
     pub plain_step : (o : Option E) → o ≡ option_map (λ t. m.quotient t p.short_modulus) thrust → Perhaps m 160 1 (10 ^ 16) 1000 1 (live_thrust d ⊘ live_modulus d) o
     plain_step o h = perhaps_at m 160 1 (10 ^ 16) 1000 1 (live_thrust d ⊘ live_modulus d) h (quantities.service_part_known s d thrust k.short q)
 
-  pub thrust_strain_step : (t e : E) (o : Option E) → e ≡ m.quotient (plus_of (computed m) (m.quotient t p.long_modulus) o) p.effective_area → Thrust m d (design_thrust d) t → LivePart m d o → Strain m d (thrust_strain d) e
+  pub thrust_strain_step : (t e : E) (o : Option E) → e ≡ strain_of (computed m) t p.long_modulus o p.effective_area → Thrust m d (design_thrust d) t → LivePart m d o → Strain m d (thrust_strain d) e
   thrust_strain_step t e o h x y = known_at h (quantities.thrust_strain_known s d o x k.long y k.effective)
 
-  pub least_strain_step : (t e : E) (o : Option E) → e ≡ m.quotient (plus_of (computed m) (m.quotient t p.long_modulus) o) p.effective_area → Thrust m d (least_thrust d) t → LivePart m d o → Strain m d (least_strain d) e
+  pub least_strain_step : (t e : E) (o : Option E) → e ≡ strain_of (computed m) t p.long_modulus o p.effective_area → Thrust m d (least_thrust d) t → LivePart m d o → Strain m d (least_strain d) e
   least_strain_step t e o h x y = known_at h (quantities.least_strain_known s d o x k.long y k.effective)
 
-  pub service_strain_step : (t e : E) (o : Option E) → e ≡ m.quotient (plus_of (computed m) (m.quotient t p.long_modulus) o) p.gross_area → Thrust m d (service_thrust d) t → Perhaps m 160 1 (10 ^ 16) 1000 1 (live_thrust d ⊘ live_modulus d) o → Strain m d (service_strain d) e
+  pub service_strain_step : (t e : E) (o : Option E) → e ≡ strain_of (computed m) t p.long_modulus o p.gross_area → Thrust m d (service_thrust d) t → Perhaps m 160 1 (10 ^ 16) 1000 1 (live_thrust d ⊘ live_modulus d) o → Strain m d (service_strain d) e
   service_strain_step t e o h x y = known_at h (quantities.service_strain_known s d o x k.long y k.gross)
 
-  pub deflection_step : (prism soil service e : E) (live : Live E) → e ≡ m.sum (plus_of (computed m) (soil_deflection_of (computed m) prism p.outside (resistance_of (computed m) p.long_modulus p.moment p.centroid soil)) (option_map (λ q. live_deflection_of (computed m) live.share q p.outside (resistance_of (computed m) p.short_modulus p.moment p.centroid soil)) live.pressure)) (m.product p.centroid service) → Prism m d prism → Soil m d soil → LiveKnown m d live → Strain m d (service_strain d) service → Deflects m d e
+  pub deflection_step : (prism soil service e : E) (live : Live E) → e ≡ deflection_of (computed m) p prism soil live service → Prism m d prism → Soil m d soil → LiveKnown m d live → Strain m d (service_strain d) service → Deflects m d e
   deflection_step prism soil service e live h psp ms l es =
       let long = quantities.resistance_known s d (long_modulus d) k.long k.moment k.centroid ms in
       let short = quantities.resistance_known s d (live_modulus d) k.short k.moment k.centroid ms in

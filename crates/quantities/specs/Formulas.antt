@@ -1,7 +1,9 @@
 -- The equations over any numbers, in the order in which they are computed: read in exact fractions they are the
 -- equations' own, or proved the same.
-use Rattle.std.specs.Prelude.{ℕ, Some, None, Option}
+use Rattle.std.specs.Prelude.{ℕ, Some, None, Option, option_map}
 use Rattle.enclosure.specs.Formula.{Ops, wide_of}
+use Rattle.quantities.specs.declared.measures.Measures.{Measures}
+use Rattle.quantities.specs.declared.worked.Live.{Live}
 
 module _ {T : Type 0} (o : Ops T) where
   -- n / k, of short and of long whole numbers
@@ -78,9 +80,25 @@ module _ {T : Type 0} (o : Ops T) where
   abbrev pub thrust_of : T → T → T
   thrust_of load outside = half_of (o.mul load outside)
 
+  -- the design thrust 1.05 (γ VAF Psp + Pw) Do/2, of γ, VAF, Psp, Pw and Do
+  abbrev pub design_thrust_of : T → T → T → Option T → T → T
+  design_thrust_of load arching prism water outside = factored_thrust_of (plus_of (o.mul (o.mul load arching) prism) water) outside
+
+  -- the least thrust (0.54 VAF Psp + Pw) Do/2, of VAF, Psp, Pw and Do
+  abbrev pub least_thrust_of : T → T → Option T → T → T
+  least_thrust_of arching prism water outside = thrust_of (plus_of (o.mul (o.mul (parts_of 54 100) arching) prism) water) outside
+
+  -- the service thrust (VAF Psp + Pw) Do/2, of VAF, Psp, Pw and Do
+  abbrev pub service_thrust_of : T → T → Option T → T → T
+  service_thrust_of arching prism water outside = thrust_of (plus_of (o.mul arching prism) water) outside
+
   -- γLL Q / Ev, of Q and Ev
   abbrev pub live_part_of : T → T → T
   live_part_of thrust modulus = o.div (o.mul (parts_of 175 100) thrust) modulus
+
+  -- (T / Elt + the live load's part) / A, of T, Elt, that part and the area A
+  abbrev pub strain_of : T → T → Option T → T → T
+  strain_of thrust modulus live area = o.div (plus_of (o.div thrust modulus) live) area
 
   -- g, of γ, Df, the farther face and D
   abbrev pub bending_factor_of : T → T → T → T → T
@@ -97,3 +115,12 @@ module _ {T : Type 0} (o : Ops T) where
   -- 0.1 CL PL Do / resistance
   abbrev pub live_deflection_of : T → T → T → T → T
   live_deflection_of share pressure outside resistance = o.div (o.mul (o.mul (o.mul (parts_of 1 10) share) pressure) outside) resistance
+
+  -- the deflection, of the pipe's measures, Psp, Ms, the live load and the service strain: under the soil at the long
+  -- modulus, under the live load at the short one, and D times the strain
+  abbrev pub deflection_of : Measures T → T → T → Live T → T → T
+  deflection_of p prism soil live service =
+      let under = soil_deflection_of prism p.outside (resistance_of p.long_modulus p.moment p.centroid soil) in
+      let short = resistance_of p.short_modulus p.moment p.centroid soil in
+      let more = option_map (λ q. live_deflection_of live.share q p.outside short) live.pressure in
+      o.add (plus_of under more) (o.mul p.centroid service)

@@ -2,6 +2,7 @@ ghost use Rattle.std.specs.Prelude.{◌≤◌};
 ghost use Rattle.equations.specs.Bending.{pipe_stiffness};
 ghost use Rattle.fraction.specs.Fraction.{Same};
 ghost use Rattle.quantities.specs.Case.{design_of};
+ghost use Rattle.quantities.specs.MeasuredCase.{design};
 ghost use Rattle.quantities.specs.Quantities.{Bending, LoadFactor};
 ghost use Rattle.lookups.specs.Operand.{stiffness_of};
 
@@ -33,8 +34,8 @@ fn stiffness(case: &Case) -> Stiffness
 impl<'a, A: Arithmetic> MeasuredCase<'a, A> {
     /// The bending factor.
     pub(crate) fn bending(&self, load: A) -> A
-        requires { LoadFactor A.model (design_of self.now.given.now) load }
-        ensures { Bending A.model (design_of self.now.given.now) result }
+        requires { LoadFactor A.model (design self.now) load }
+        ensures { Bending A.model (design self.now) result }
     {
         let case = self.given;
         let section = case.section;

@@ -3,6 +3,7 @@ ghost use Rattle.enclosure.specs.Formula.{computed};
 ghost use Rattle.equations.specs.Regrouped.{prism_units};
 ghost use Rattle.quantities.specs.Case.{design_of};
 ghost use Rattle.quantities.specs.Formulas.{parts_of, live_length_of, truck_pressure_of};
+ghost use Rattle.quantities.specs.MeasuredCase.{design};
 ghost use Rattle.quantities.specs.Quantities.{Water, Live};
 
 use crate::case::Case;
@@ -39,7 +40,7 @@ fn under_wheels<A: Arithmetic>(fill: u64, load: u64, depth: A, width: A) -> A
 impl<'a, A: Arithmetic> MeasuredCase<'a, A> {
     /// The hydrostatic pressure, where there is water.
     pub(crate) fn water(&self) -> Option<A>
-        ensures { Water A.model (design_of self.now.given.now) result }
+        ensures { Water A.model (design self.now) result }
     {
         let site = self.given.site;
         if site.water == 0 {
@@ -52,7 +53,7 @@ impl<'a, A: Arithmetic> MeasuredCase<'a, A> {
 
     /// The live load's pressure, where it counts.
     pub(crate) fn live_pressure(&self) -> Option<A>
-        ensures { Live A.model (design_of self.now.given.now) result }
+        ensures { Live A.model (design self.now) result }
     {
         let measures = &self.measures;
         let fill = self.given.site.fill;

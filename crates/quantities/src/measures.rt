@@ -1,7 +1,7 @@
-ghost use Rattle.std.specs.Prelude.{◌≡◌, option_map};
+ghost use Rattle.std.specs.Prelude.{◌≡◌};
 ghost use Rattle.enclosure.specs.Formula.{computed};
 ghost use Rattle.quantities.specs.Case.{design_of};
-ghost use Rattle.quantities.specs.Formulas.{plus_of, resistance_of, soil_deflection_of, live_deflection_of};
+ghost use Rattle.quantities.specs.Formulas.{resistance_of, deflection_of};
 
 use crate::case::Case;
 use crate::formulas::{live_deflection, parts, plus, resistance, soil_deflection};
@@ -50,11 +50,7 @@ impl<A: Arithmetic> Measures<A> {
     }
 
     pub(crate) fn deflection(&self, prism: A, soil: A, live: &Live<A>, service: A) -> A
-        ensures { result ≡ A.model.sum
-            (plus_of (computed A.model)
-            (soil_deflection_of (computed A.model) prism self.now.outside (resistance_of (computed A.model) self.now.long_modulus self.now.moment self.now.centroid soil))
-            (option_map (λ p. live_deflection_of (computed A.model) live.now.share p self.now.outside (resistance_of (computed A.model) self.now.short_modulus self.now.moment self.now.centroid soil)) live.now.pressure))
-            (A.model.product self.now.centroid service) }
+        ensures { result ≡ deflection_of (computed A.model) self.now prism soil live.now service }
     {
         let long = self.resistance(self.long_modulus, soil);
         let short = self.resistance(self.short_modulus, soil);

@@ -1,7 +1,7 @@
 use Rattle.std.proofs.Common.{ap, ◌∙◌, arith}
 use Rattle.enclosure.specs.Formula.{computed}
 use Rattle.lookups.specs.Operand.{stiffness_of}
-use Rattle.quantities.specs.Case.{design_of}
+use Rattle.quantities.specs.MeasuredCase.{design}
 use Rattle.quantities.specs.Formulas.{parts_of}
 use Rattle.quantities.proofs.Bends.{shape_same, bending_steps}
 use Rattle.quantities.proofs.Ranges.{measured}
@@ -10,7 +10,7 @@ use Rattle.quantities.proofs.measured.MeasuredCase.bending.Goals as goal
 pub returns : goal.returns
 returns g c =
     let s = g.met.A.Arithmetic.sound in
-    let d = design_of c.args.self.now.given.now in
+    let d = design c.args.self.now in
     let p = c.args.self.now.measures in
     let f = c.shape_factor-factor.result in
     let e = c.shape_factor-factor.ensures in

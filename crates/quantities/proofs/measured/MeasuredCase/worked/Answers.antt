@@ -1,4 +1,4 @@
-use Rattle.quantities.specs.Case.{design_of}
+use Rattle.quantities.specs.MeasuredCase.{design}
 use Rattle.quantities.specs.Quantities.{Prism, Arching, Hoop, LoadFactor}
 use Rattle.quantities.proofs.Known.{known_at}
 use Rattle.quantities.proofs.Pressing.{prism_known}
@@ -10,14 +10,14 @@ use Rattle.quantities.proofs.measured.MeasuredCase.worked.Goals as goal
 pub live-live-requires : goal.live-live-requires
 live-live-requires g c =
     let s = g.met.A.Arithmetic.sound in
-    let d = design_of c.args.self.now.given.now in
+    let d = design c.args.self.now in
     let p = c.args.self.now.measures in
     working.hoop_step s d p (measured s d p c.args.self.now.measured) c.soil_modulus-modulus.result c.hoop_stiffness-hoop.result c.hoop_stiffness-hoop.ensures c.soil_modulus-modulus.ensures
 
 pub bending-requires : goal.bending-requires
 bending-requires g c =
     let s = g.met.A.Arithmetic.sound in
-    let d = design_of c.args.self.now.given.now in
+    let d = design c.args.self.now in
     let p = c.args.self.now.measures in
     working.load_step s d p (measured s d p c.args.self.now.measured) c.parts.result c.load_factor-load_factor.result c.parts.ensures c.load_factor-load_factor.ensures
 
@@ -25,7 +25,7 @@ pub returns : goal.returns
 returns g c =
     let s = g.met.A.Arithmetic.sound in
     let m = g.A.Arithmetic.model in
-    let d = design_of c.args.self.now.given.now in
+    let d = design c.args.self.now in
     let p = c.args.self.now.measures in
     let k = measured s d p c.args.self.now.measured in
     let n = c.prism_units-units.ensures in
