@@ -2,5 +2,4 @@ mod Compared
 mod Marks
 mod ReadingOut
 mod Meanings
-mod Found
 pub mod ClaimLists

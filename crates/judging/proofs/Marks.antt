@@ -1,7 +1,6 @@
 -- What marking a claim tells, and the figures.
 use Rattle.std.proofs.Common.{◌≡◌, ℕ, ◌*◌, ◌^◌, ◌≤◌, ◌⊎◌, T, sym, refl, ap, ◌∙◌, subst, inl, inr, arith, lit≤}
 use Rattle.std.proofs.Math.Logic.{⊎_map}
-use Rattle.std.proofs.lemmas.Bool.{true≢false}
 use Rattle.fraction.specs.Fraction.{Fraction, whole, ◌⊘◌}
 use Rattle.enclosure.specs.Model.{Model, Sound}
 use Rattle.enclosure.specs.Answer.{compared}
@@ -23,33 +22,20 @@ use Rattle.judging.specs.declared.answer.Mark.TheVariants.{Right, Wrong, Unmarke
 use Rattle.quantities.proofs.Known.{leaf, known, meets}
 use Rattle.judging.proofs.Compared.{enclosure_of}
 
--- which answers a mark comes from
-both_yes : (u v : Comparison) → mark_of u v ≡ Right → (u ≡ Yes) × (v ≡ Yes)
-both_yes Yes Yes h = (refl, refl)
-both_yes Yes No h = absurd (true≢false (cc))
-both_yes Yes Unknown h = absurd (true≢false (cc))
-both_yes No v h = absurd (true≢false (cc))
-both_yes Unknown Yes h = absurd (true≢false (cc))
-both_yes Unknown No h = absurd (true≢false (cc))
-both_yes Unknown Unknown h = absurd (true≢false (cc))
+-- the answers that a mark comes from
+abbrev Told : Mark → Comparison → Comparison → Type 0
+Told Right u v = (u ≡ Yes) × (v ≡ Yes)
+Told Wrong u v = (u ≡ No) ⊎ (v ≡ No)
+Told Unmarked u v = (u ≡ Unknown) ⊎ (v ≡ Unknown)
 
-one_no : (u v : Comparison) → mark_of u v ≡ Wrong → (u ≡ No) ⊎ (v ≡ No)
-one_no Yes Yes h = absurd (true≢false (cc))
-one_no Yes No h = inr refl
-one_no Yes Unknown h = absurd (true≢false (cc))
-one_no No v h = inl refl
-one_no Unknown Yes h = absurd (true≢false (cc))
-one_no Unknown No h = inr refl
-one_no Unknown Unknown h = absurd (true≢false (cc))
-
-one_unknown : (u v : Comparison) → mark_of u v ≡ Unmarked → (u ≡ Unknown) ⊎ (v ≡ Unknown)
-one_unknown Yes Yes h = absurd (true≢false (cc))
-one_unknown Yes No h = absurd (true≢false (cc))
-one_unknown Yes Unknown h = inr refl
-one_unknown No v h = absurd (true≢false (cc))
-one_unknown Unknown Yes h = inl refl
-one_unknown Unknown No h = absurd (true≢false (cc))
-one_unknown Unknown Unknown h = inl refl
+told : (u v : Comparison) → Told (mark_of u v) u v
+told Yes Yes = (refl, refl)
+told Yes No = inr refl
+told Yes Unknown = inr refl
+told No v = inl refl
+told Unknown Yes = inl refl
+told Unknown No = inr refl
+told Unknown Unknown = inl refl
 
 module _ {E : Type 0} {m : Model E} (s : Sound m) where
   edge_close : (n : ℕ) → 1 ≤ n → n ≤ 10 ^ 16 → Close m 3 (whole n ⊘ whole 100) (parts_of (computed m) n 100)
@@ -58,6 +44,7 @@ module _ {E : Type 0} {m : Model E} (s : Sound m) where
   pub marked_by : (c : ℕ) (x : Fraction) (e l h : E) (u v : Comparison) (k : Mark) → 1 ≤ c → c ≤ 10 ^ 13 → Known m 302 1 (10 ^ 4) (10 ^ 15) 1 x e → l ≡ parts_of (computed m) (99 * c) 100 → h ≡ parts_of (computed m) (101 * c) 100 → u ≡ compared m l e → v ≡ compared m e h → k ≡ mark_of u v → Marked m c x k
   marked_by c x e l h u v k some most p i j a b is =
       let q = p.close in
+      let by : (j : Mark) → k ≡ j → Told j u v = λ j r. subst (λ j. Told j u v) (sym is ∙ r) (told u v) in
       let low : Close m 3 (low_edge c) l = subst (λ f. Close m 3 (low_edge c) f) (sym i) (edge_close (99 * c) (omega arith) (omega arith)) in
       let high : Close m 3 (high_edge c) h = subst (λ f. Close m 3 (high_edge c) f) (sym j) (edge_close (101 * c) (omega arith) (omega arith)) in
       record {
@@ -66,10 +53,10 @@ module _ {E : Type 0} {m : Model E} (s : Sound m) where
         high = enclosure_of high;
         is = is ∙ (ap (λ n. mark_of n v) a ∙ ap (mark_of (compared m l e)) b);
         right = λ r.
-            let t = both_yes u v (sym is ∙ r) in
+            let t = by Right r in
             (said_yes m s 3 302 (low_edge c) x l e low q (sym a ∙ t.0), said_yes m s 302 3 x (high_edge c) e h q high (sym b ∙ t.1));
-        wrong = λ r. ⊎_map (λ t. said_no m s 3 302 (low_edge c) x l e low q (sym a ∙ t)) (λ t. said_no m s 302 3 x (high_edge c) e h q high (sym b ∙ t)) (one_no u v (sym is ∙ r));
-        unmarked = λ r. ⊎_map (λ t. said_unknown m s 3 302 (low_edge c) x l e low q (lit≤ tt) (sym a ∙ t)) (λ t. said_unknown m s 302 3 x (high_edge c) e h q high (lit≤ tt) (sym b ∙ t)) (one_unknown u v (sym is ∙ r));
+        wrong = λ r. ⊎_map (λ t. said_no m s 3 302 (low_edge c) x l e low q (sym a ∙ t)) (λ t. said_no m s 302 3 x (high_edge c) e h q high (sym b ∙ t)) (by Wrong r);
+        unmarked = λ r. ⊎_map (λ t. said_unknown m s 3 302 (low_edge c) x l e low q (lit≤ tt) (sym a ∙ t)) (λ t. said_unknown m s 302 3 x (high_edge c) e h q high (lit≤ tt) (sym b ∙ t)) (by Unmarked r);
       }
 
   -- a quantity as a figure

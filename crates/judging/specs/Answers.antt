@@ -1,5 +1,7 @@
 -- The numbers of the answers, and the values that they carry.
-use Rattle.std.specs.Prelude.{ℕ, Bool, true, false, cond, ◌||◌, List, [], ◌∷◌, Some, None, Option}
+use Rattle.std.specs.Prelude.{ℕ, Bool, true, false, cond, List, [], ◌∷◌, map, Some, None, Option}
+use Rattle.std.specs.List.{find, list_any}
+use Rattle.std.specs.Option.{option_map}
 use Rattle.enclosure.specs.declared.Comparison.{Comparison}
 use Rattle.enclosure.specs.declared.Comparison.TheVariants.{Yes, No, Unknown}
 use Rattle.equations.specs.Limits.{limit_number}
@@ -36,12 +38,14 @@ mark_number Right = 1
 mark_number Wrong = 2
 mark_number Unmarked = 3
 
--- the states of a sheet, in the order of the limit states
-abbrev pub limit_states : List LimitState
-limit_states = Thrust ∷ NetTension ∷ Combined ∷ Deflection ∷ Buckling ∷ Flexibility ∷ Buoyancy ∷ []
+-- the limit states in order, each with its state on a sheet, and the states alone
+abbrev pub limit_states : Sheet → List (LimitState × State)
+limit_states s =
+    (Thrust, s.thrust) ∷ (NetTension, s.net_tension) ∷ (Combined, s.combined) ∷ (Deflection, s.deflection) ∷ (Buckling, s.buckling)
+    ∷ (Flexibility, s.flexibility) ∷ (Buoyancy, s.buoyancy) ∷ []
 
 abbrev pub states : Sheet → List State
-states s = s.thrust ∷ s.net_tension ∷ s.combined ∷ s.deflection ∷ s.buckling ∷ s.flexibility ∷ s.buoyancy ∷ []
+states s = map (λ p. p.1) (limit_states s)
 
 abbrev pub failing : State → Bool
 failing Holds = false
@@ -55,19 +59,16 @@ unsettled Fails = false
 unsettled Undecided = true
 unsettled NotApplied = false
 
-abbrev pub first_failing : List LimitState → List State → Option LimitState
-first_failing [] ss = None
-first_failing (l ∷ ls) [] = None
-first_failing (l ∷ ls) (s ∷ ss) = cond (failing s) (Some l) (first_failing ls ss)
+abbrev pub first_failing : List (LimitState × State) → Option LimitState
+first_failing ps = option_map (λ p. p.0) (find (λ p. failing p.1) ps)
 
-abbrev pub any_unsettled : List State → Bool
-any_unsettled [] = false
-any_unsettled (s ∷ ss) = unsettled s || any_unsettled ss
+abbrev pub any_unsettled : List (LimitState × State) → Bool
+any_unsettled ps = list_any (λ p. unsettled p.1) ps
 
 abbrev pub decided : Option LimitState → Bool → Verdict
 decided (Some l) b = Rejected l
 decided None b = cond b NoVerdict Accepted
 
 -- rejected naming the first that fails, else undecided if one is, else accepted
-abbrev pub verdict_of : List State → Verdict
-verdict_of ss = decided (first_failing limit_states ss) (any_unsettled ss)
+abbrev pub verdict_of : List (LimitState × State) → Verdict
+verdict_of ps = decided (first_failing ps) (any_unsettled ps)

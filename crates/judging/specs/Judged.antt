@@ -6,13 +6,13 @@ use Rattle.enclosure.specs.Model.{Model, Encloses}
 use Rattle.enclosure.specs.Answer.{compared}
 use Rattle.enclosure.specs.Formula.{Made}
 use Rattle.enclosure.specs.declared.Comparison.{Comparison}
-use Rattle.enclosure.specs.declared.Comparison.TheVariants.{Yes, No, Unknown}
+use Rattle.enclosure.specs.declared.Comparison.TheVariants.{Yes, No}
 use Rattle.equations.specs.Units.{hundredths}
 use Rattle.equations.specs.Design.{Design}
 use Rattle.equations.specs.Limits.{left, right, buoyant}
 use Rattle.equations.specs.declared.limit_state.LimitState.{LimitState}
 use Rattle.equations.specs.declared.limit_state.LimitState.TheVariants.{Thrust, NetTension, Combined, Deflection, Buckling, Flexibility, Buoyancy}
-use Rattle.judging.specs.Answers.{state_of, states, verdict_of}
+use Rattle.judging.specs.Answers.{state_of, limit_states, verdict_of}
 use Rattle.judging.specs.declared.answer.Mark.{Mark}
 use Rattle.judging.specs.declared.answer.Mark.TheVariants.{Right, Wrong, Unmarked}
 use Rattle.judging.specs.declared.answer.State.{State}
@@ -54,7 +54,7 @@ pub record SheetJudged {E : Type 0} (m : Model E) (d : Design) (s : Sheet) : Typ
   pub buckling : LimitJudged m Buckling d s.buckling
   pub flexibility : LimitJudged m Flexibility d s.flexibility
   pub buoyancy : Asked (buoyant d) (LimitJudged m Buoyancy d s.buoyancy) s.buoyancy
-  pub verdict : s.verdict ≡ verdict_of (states s)
+  pub verdict : s.verdict ≡ verdict_of (limit_states s)
 
 -- accepted: every inequality that applies is met
 pub record Met (d : Design) : Type 0 where
