@@ -1,5 +1,5 @@
 -- The laws of a whole part, rounded either way.
-use Rattle.std.proofs.Common.{◌≡◌, ℕ, zero, suc, ◌+◌, ◌-◌, ◌*◌, ◌<◌, ◌≤◌, sym, ap, mul-le-mul_right, lt_of_mul-lt-mul_right, mul-lt-mul_of_pos_right, mul-pos, div-mul-le_self, le_of_mul-le-mul_right, arith}
+use Rattle.std.proofs.Common.{◌≡◌, ℕ, zero, suc, ◌+◌, ◌-◌, ◌*◌, ◌<◌, ◌≤◌, sym, ap, mul-le-mul_left, mul-le-mul_right, lt_of_mul-lt-mul_right, mul-lt-mul_of_pos_right, mul-pos, div-mul-le_self, le_of_mul-le-mul_right, arith}
 use native.Mathlib.Nat.{div-eq_of_lt-le, lt-div-mul-add}
 use Rattle.rounding.specs.Cut.{cut, turned}
 use Rattle.rounding.specs.declared.rounding.Rounding.{Rounding}
@@ -93,6 +93,13 @@ cut_most t n a k pa h = by t (cut t n a) (cuts t n a pa)
     by : (t : Rounding) (q : ℕ) → Cuts t n a q → q ≤ k
     by Down q c = le_of_mul-le-mul_right {k = a} (omega arith) pa
     by Up q c = let l : q < k + 1 = lt_of_mul-lt-mul_right a (omega arith) in omega arith
+
+-- cutting a digit off leaves less
+pub cut_shrinks : (t : Rounding) (n a : ℕ) → 2 ≤ a → 2 ≤ n → cut t n a < n
+cut_shrinks t n a b h =
+    let room : n ≤ (n - 1) * a = omega (arith, mul-le-mul_left (n - 1) b) in
+    let p = cut_most t n a (n - 1) (omega arith) room in
+    omega arith
 
 pub cut_below : (n a k : ℕ) → 0 < a → n < k * a → cut Down n a < k
 cut_below n a k pa h = let c = cuts Down n a pa in lt_of_mul-lt-mul_right a (omega arith)

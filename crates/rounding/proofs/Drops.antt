@@ -78,14 +78,6 @@ module _ {B S W bias : ℕ} (z : Radix B S W bias) where
       ap (λ x. cut t x B) e ∙ cut_cut t n (B ^ k) B (power_pos z k) (base_pos z)
       ∙ ap (λ x. cut t n x) (sym (pow-suc B k) ∙ ap (λ x. B ^ x) (sym one))
 
-  pub cut_shrinks : (t : Rounding) (n : ℕ) → 2 ≤ n → cut t n B < n
-  cut_shrinks t n h =
-      let p = cut_most t n B (n - 1) (base_pos z) (room n B h z.0.0) in
-      omega arith
-    where
-      room : (n B : ℕ) → 2 ≤ n → 2 ≤ B → n ≤ (n - 1) * B
-      room n B h b = let e : (n - 1) * 2 ≤ (n - 1) * B = mul-le-mul_left (n - 1) b in omega arith
-
 pub less_power : (B f : ℕ) → 0 < f → B ^ f ≡ B * B ^ (f - 1)
 less_power B f h =
     let e : f ≡ suc (f - 1) = omega arith in

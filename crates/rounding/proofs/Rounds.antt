@@ -1,5 +1,5 @@
 -- What rounding an exact quantity to an end gives.
-use Rattle.std.proofs.Common.{◌≡◌, ℕ, zero, suc, ◌+◌, ◌-◌, ◌*◌, ◌^◌, ◌<◌, ◌≤◌, cond, ltb, Some, None, Option, sym, refl, ap, ◌∙◌, subst, le_refl, mul_assoc, mul_comm, mul-le-mul_left, mul-pos, pow-suc, lt_of_not-le, mul-one, arith, le-ltb, lt-ltb, eq-eqb, ne_eqb, le-leb}
+use Rattle.std.proofs.Common.{◌≡◌, ℕ, zero, suc, ◌+◌, ◌*◌, ◌^◌, ◌<◌, ◌≤◌, cond, ltb, Some, None, Option, sym, refl, ap, ◌∙◌, subst, le_refl, mul_assoc, mul_comm, mul-le-mul_left, mul-pos, pow-suc, lt_of_not-le, mul-one, arith, le-ltb, lt-ltb, eq-eqb, ne_eqb, le-leb}
 use mathlib.Core.Logic.{dite}
 use native.Mathlib.Decide.{dec_le}
 use native.Mathlib.Nat.{pow-le-pow_right, pow-zero, one-le-pow}
@@ -11,7 +11,7 @@ use Rattle.rounding.specs.declared.radix.Radix.{Ghosts}
 use Rattle.rounding.specs.declared.rounding.Rounding.{Rounding}
 use Rattle.rounding.specs.declared.rounding.Rounding.TheVariants.{Down, Up}
 use Rattle.rounding.specs.declared.end.End.{End}
-use Rattle.rounding.proofs.Cuts.{cut_cut, cut_one, cut_least, cut_most, cut_below, cut_some}
+use Rattle.rounding.proofs.Cuts.{cut_cut, cut_one, cut_least, cut_most, cut_below, cut_some, cut_shrinks}
 use Rattle.rounding.proofs.Ends.{base_pos, power_pos}
 
 module _ (t : Rounding) (B L : ℕ) (b : 2 ≤ B) (l : 2 ≤ L) where
@@ -23,14 +23,6 @@ module _ (t : Rounding) (B L : ℕ) (b : 2 ≤ B) (l : 2 ≤ L) where
   surplus_more : (k n : ℕ) → L ≤ n → surplus t B L (suc k) n ≡ suc (surplus t B L k (cut t n B))
   unfolding surplus
   surplus_more k n h = ap (λ x. cond x 0 (suc (surplus t B L k (cut t n B)))) (le-ltb n L h)
-
-  shrinks : (n : ℕ) → 2 ≤ n → cut t n B < n
-  shrinks n h =
-      let p = cut_most t n B (n - 1) (omega arith) (room n B h b) in
-      omega arith
-    where
-      room : (n B : ℕ) → 2 ≤ n → 2 ≤ B → n ≤ (n - 1) * B
-      room n B h b = let e : (n - 1) * 2 ≤ (n - 1) * B = mul-le-mul_left (n - 1) b in omega arith
 
   base : 0 < B
   base = omega arith
@@ -47,7 +39,7 @@ module _ (t : Rounding) (B L : ℕ) (b : 2 ≤ B) (l : 2 ≤ L) where
   surplus_is (suc e) zero n f h o = let many : L ≤ n = subst (λ (x : ℕ). L ≤ x) (whole_cut n) (o zero (omega arith)) in absurd (omega arith)
   surplus_is (suc e) (suc k) n f h o =
       let many : L ≤ n = subst (λ (x : ℕ). L ≤ x) (whole_cut n) (o zero (omega arith)) in
-      let s = shrinks n (omega arith) in
+      let s = cut_shrinks t n B b (omega arith) in
       surplus_more k n many
       ∙ ap suc
       (surplus_is e k (cut t n B) (omega arith)
@@ -69,7 +61,7 @@ module _ (t : Rounding) (B L : ℕ) (b : 2 ≤ B) (l : 2 ≤ L) where
   surplus_ends (suc k) n f =
       dite (dec_le L n)
       (λ many.
-      let s = shrinks n (omega arith) in
+      let s = cut_shrinks t n B b (omega arith) in
       let r = surplus_ends k (cut t n B) (omega arith) in
       let e = surplus_more k n many in (
         subst (λ (x : ℕ). cut t n (B ^ x) < L) (sym e) (subst (λ (x : ℕ). x < L) (next_cut n (surplus t B L k (cut t n B))) r.0),
