@@ -1,6 +1,6 @@
 -- The laws of a whole part, rounded either way.
-use Rattle.std.proofs.Common.{◌≡◌, ℕ, zero, suc, ◌+◌, ◌-◌, ◌*◌, ◌<◌, ◌≤◌, sym, ap, mul-le-mul_left, mul-le-mul_right, lt_of_mul-lt-mul_right, mul-lt-mul_of_pos_right, mul-pos, div-mul-le_self, le_of_mul-le-mul_right, arith}
-use native.Mathlib.Nat.{div-eq_of_lt-le, lt-div-mul-add}
+use Rattle.std.proofs.Common.{◌≡◌, ℕ, zero, suc, ◌+◌, ◌-◌, ◌*◌, ◌^◌, ◌<◌, ◌≤◌, sym, ap, ◌∙◌, mul-le-mul_left, mul-le-mul_right, lt_of_mul-lt-mul_right, mul-lt-mul_of_pos_right, mul-pos, div-mul-le_self, le_of_mul-le-mul_right, arith}
+use native.Mathlib.Nat.{pow-zero, div-eq_of_lt-le, lt-div-mul-add}
 use Rattle.rounding.specs.Cut.{cut, turned}
 use Rattle.rounding.specs.declared.rounding.Rounding.{Rounding}
 use Rattle.rounding.specs.declared.rounding.Rounding.TheVariants.{Down, Up}
@@ -64,6 +64,9 @@ cut_one t n = cut_is t n 1 n (omega arith) (by t)
     by : (t : Rounding) → Cuts t n 1 n
     by Down = (omega arith, omega arith)
     by Up = (omega arith, omega arith)
+
+pub cut_none : (t : Rounding) (n B : ℕ) → cut t n (B ^ 0) ≡ n
+cut_none t n B = ap (λ x. cut t n x) (pow-zero B) ∙ cut_one t n
 
 -- taking away turns the rounding round
 pub cut_minus : (t : Rounding) (x n a : ℕ) → 0 < a → n ≤ x * a → cut t (x * a - n) a ≡ x - cut (turned t) n a

@@ -7,7 +7,7 @@ use Rattle.rounding.specs.Cut.{cut}
 use Rattle.rounding.specs.Rounded.{wider}
 use Rattle.rounding.specs.declared.rounding.Rounding.{Rounding}
 use Rattle.rounding.specs.declared.rounding.Rounding.TheVariants.{Down, Up}
-use Rattle.rounding.proofs.Cuts.{cut_is, cut_cut, cut_one, cut_most}
+use Rattle.rounding.proofs.Cuts.{cut_is, cut_cut, cut_most}
 use Rattle.rounding.proofs.Ends.{base_pos, power_pos}
 use Rattle.rounding.proofs.Scalings.{power_next}
 
@@ -55,9 +55,6 @@ module _ {B S W bias : ℕ} (z : Radix B S W bias) where
 
   pub cut_less : (t : Rounding) (n d : ℕ) → 0 < d → cut t n d ≤ n
   cut_less t n d pos = cut_most t n d n pos (let h = mul-le-mul_left n pos in omega arith)
-
-  pub cut_none : (t : Rounding) (n : ℕ) → cut t n (B ^ 0) ≡ n
-  cut_none t n = ap (λ x. cut t n x) (pow-zero B) ∙ cut_one t n
 
   -- all of the digits are cut off
   pub cut_all : (t : Rounding) (n k : ℕ) → n < W * B → 32 ≤ k → cut t n (W * B) ≡ cut t n (B ^ k)

@@ -11,7 +11,7 @@ use Rattle.rounding.specs.declared.radix.Radix.{Ghosts}
 use Rattle.rounding.specs.declared.rounding.Rounding.{Rounding}
 use Rattle.rounding.specs.declared.rounding.Rounding.TheVariants.{Down, Up}
 use Rattle.rounding.specs.declared.end.End.{End}
-use Rattle.rounding.proofs.Cuts.{cut_cut, cut_one, cut_least, cut_most, cut_below, cut_some, cut_shrinks}
+use Rattle.rounding.proofs.Cuts.{cut_cut, cut_least, cut_most, cut_below, cut_some, cut_shrinks, cut_none}
 use Rattle.rounding.proofs.Ends.{base_pos, power_pos}
 
 module _ (t : Rounding) (B L : ℕ) (b : 2 ≤ B) (l : 2 ≤ L) where
@@ -27,18 +27,15 @@ module _ (t : Rounding) (B L : ℕ) (b : 2 ≤ B) (l : 2 ≤ L) where
   base : 0 < B
   base = omega arith
 
-  whole_cut : (n : ℕ) → cut t n (B ^ 0) ≡ n
-  whole_cut n = ap (λ x. cut t n x) (pow-zero B) ∙ cut_one t n
-
   next_cut : (n i : ℕ) → cut t (cut t n B) (B ^ i) ≡ cut t n (B ^ suc i)
   next_cut n i = cut_cut t n B (B ^ i) base (one-le-pow i B base) ∙ ap (λ x. cut t n x) (mul_comm B (B ^ i) ∙ sym (pow-suc B i))
 
   -- the digits to cut off: too many are left until then
   pub surplus_is : (e k n : ℕ) → n ≤ k → cut t n (B ^ e) < L → ((i : ℕ) → i < e → L ≤ cut t n (B ^ i)) → surplus t B L k n ≡ e
-  surplus_is zero k n f h o = surplus_none k n (subst (λ (x : ℕ). x < L) (whole_cut n) h)
-  surplus_is (suc e) zero n f h o = let many : L ≤ n = subst (λ (x : ℕ). L ≤ x) (whole_cut n) (o zero (omega arith)) in absurd (omega arith)
+  surplus_is zero k n f h o = surplus_none k n (subst (λ (x : ℕ). x < L) (cut_none t n B) h)
+  surplus_is (suc e) zero n f h o = let many : L ≤ n = subst (λ (x : ℕ). L ≤ x) (cut_none t n B) (o zero (omega arith)) in absurd (omega arith)
   surplus_is (suc e) (suc k) n f h o =
-      let many : L ≤ n = subst (λ (x : ℕ). L ≤ x) (whole_cut n) (o zero (omega arith)) in
+      let many : L ≤ n = subst (λ (x : ℕ). L ≤ x) (cut_none t n B) (o zero (omega arith)) in
       let s = cut_shrinks t n B b (omega arith) in
       surplus_more k n many
       ∙ ap suc
@@ -49,10 +46,10 @@ module _ (t : Rounding) (B L : ℕ) (b : 2 ≤ B) (l : 2 ≤ L) where
   ended : (k n : ℕ) → n < L → (cut t n (B ^ surplus t B L k n) < L) × ((i : ℕ) → i < surplus t B L k n → L ≤ cut t n (B ^ i))
   ended k n h =
       let e = surplus_none k n h in
-      (subst (λ (x : ℕ). cut t n (B ^ x) < L) (sym e) (subst (λ (x : ℕ). x < L) (sym (whole_cut n)) h), λ i l. absurd (omega (arith, e)))
+      (subst (λ (x : ℕ). cut t n (B ^ x) < L) (sym e) (subst (λ (x : ℕ). x < L) (sym (cut_none t n B)) h), λ i l. absurd (omega (arith, e)))
 
   later : (n : ℕ) → L ≤ n → (k : ℕ) → ((i : ℕ) → i < k → L ≤ cut t (cut t n B) (B ^ i)) → (i : ℕ) → i < suc k → L ≤ cut t n (B ^ i)
-  later n many k f zero l = subst (λ (x : ℕ). L ≤ x) (sym (whole_cut n)) many
+  later n many k f zero l = subst (λ (x : ℕ). L ≤ x) (sym (cut_none t n B)) many
   later n many k f (suc i) l = subst (λ (x : ℕ). L ≤ x) (next_cut n i) (f i (omega arith))
 
   -- and that is where cutting ends
