@@ -12,7 +12,7 @@ min_cases a b p q u v =
     (λ le. let e : min a b ≡ a = omega arith in rw e u)
     (λ gt. let e : min a b ≡ b = omega arith in rw e v)
 
-max_cases : (a b p q : ℕ) → a * p ≤ q → b * p ≤ q → max a b * p ≤ q
+pub max_cases : (a b p q : ℕ) → a * p ≤ q → b * p ≤ q → max a b * p ≤ q
 max_cases a b p q u v =
     dite (dec_le a b)
     (λ le. let e : max a b ≡ b = omega arith in rw e v)

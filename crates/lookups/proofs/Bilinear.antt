@@ -9,6 +9,7 @@ use lib.Seq.{get_or-take, get_or-drop, drop-drop}
 use Rattle.fraction.specs.Fraction.{Fraction, Same, whole, ◌⊕◌, ◌⊗◌, ◌⊘◌}
 use Rattle.fraction.specs.Ratio.{value}
 use Rattle.fraction.specs.declared.ratio.Ratio.{Ratio}
+use Rattle.fraction.proofs.Order as order
 use Rattle.fraction.proofs.Sames as same
 use Rattle.lookups.specs.Cell.{mix, Finds, row_sum}
 use Rattle.lookups.specs.Line.{line_at}
@@ -18,7 +19,7 @@ use Rattle.records.specs.declared.grid.SupportGrid.{SupportGrid}
 use Rattle.records.specs.Lines.{grid_widths, grid_ratios, grid_factors}
 use Rattle.records.proofs.GridLines.{gridded}
 use Rattle.lookups.proofs.Cells.{finds_at}
-use Rattle.lookups.proofs.Values.{mean_least, mean_most, one_max, mean_same}
+use Rattle.lookups.proofs.Values.{mean_least, mean_most, mean_same}
 
 rows_length : (widths rs fs : List ℕ) (w : Fraction) → length (rows widths rs fs w) ≡ length rs
 rows_length widths [] fs w = refl
@@ -57,7 +58,7 @@ module _ (widths ratios fs : List ℕ) (full : length fs ≡ length ratios * len
   one_row w c fw cf cs j h R e =
       rw (e, rows_at widths ratios fs w j h)
       (same.trans
-      (rw (row_at widths fs j c.first cf, row_at widths fs j c.second cs) (mean_same (get_or fs (j * length widths + c.first) 0) (get_or fs (j * length widths + c.second) 0) c.after c.before (c.after + c.before) c.positive (one_max (c.after + c.before) c.positive)))
+      (rw (row_at widths fs j c.first cf, row_at widths fs j c.second cs) (mean_same (get_or fs (j * length widths + c.first) 0) (get_or fs (j * length widths + c.second) 0) c.after c.before (c.after + c.before) c.positive (order.one_max (c.after + c.before) c.positive)))
       (fw (row_of widths fs j) (row_length widths ratios fs j full h)))
 
   -- two rows, weighed in their turn
@@ -65,7 +66,7 @@ module _ (widths ratios fs : List ℕ) (full : length fs ≡ length ratios * len
   unfolding support_at mix
   support_same w m c d fw fm cf cs df ds R S r s h =
       same.trans
-      (grid_nat R S d.after d.before (c.after + c.before) (d.after + d.before) c.positive h (one_max (d.after + d.before) d.positive))
+      (grid_nat R S d.after d.before (c.after + c.before) (d.after + d.before) c.positive h (order.one_max (d.after + d.before) d.positive))
       (same.over_one (whole 1000)
       (same.trans
       (same.over_one (whole (d.after + d.before))
@@ -96,17 +97,17 @@ cell_fits most den s k d ns one h l m = let e = rw (own_places ns) at h in omega
 pub weights_fit : (s t : ℕ) → s ≤ 120000000 → t ≤ 17280000000000000000000 → 0 < s → 0 < t → (0 < s * t) × (s * t ≤ 120000000 * 17280000000000000000000)
 weights_fit s t h k hs ht = (omega (arith, mul-le-mul hs ht), mul-le-mul h k)
 
-pub weighed : (R S A B s : ℕ) → s ≤ R → R ≤ 2000 * s → s ≤ S → S ≤ 2000 * s → (s * (A + B) ≤ R * A + S * B) × (R * A + S * B ≤ 2000 * s * (A + B))
-weighed R S A B s r1 r2 s1 s2 = (omega (arith, mul-le-mul_right A r1, mul-le-mul_right B s1), omega (arith, mul-le-mul_right A r2, mul-le-mul_right B s2))
+pub weighed : (R S A B s n : ℕ) → n ≡ R * A + S * B → s ≤ R → R ≤ 2000 * s → s ≤ S → S ≤ 2000 * s → (1000 * s * (A + B) ≤ 1000 * n) × (n ≤ 2 * (1000 * s * (A + B)))
+weighed R S A B s n e r1 r2 s1 s2 = (omega (arith, e, mul-le-mul_right A r1, mul-le-mul_right B s1), omega (arith, e, mul-le-mul_right A r2, mul-le-mul_right B s2))
 
 -- the two ratios as the lookups take them
 pub width_same : (r : Fraction) (b o : ℕ) → 0 < o → r.num ≡ 100 * b → r.den ≡ o → Same r ((whole b ⊘ whole o) ⊗ whole 100)
 unfolding ◌⊗◌ ◌⊘◌ whole
-width_same r b o h e f = same.by_parts (rw (e, f, one_max o h) (omega arith))
+width_same r b o h e f = same.by_parts (rw (e, f, order.one_max o h) (omega arith))
 
 pub modulus_same : (r : Fraction) (n : ℕ) (m : Fraction) → 0 < m.num → r.num ≡ 1000 * n * m.den → r.den ≡ m.num → Same r ((whole n ⊘ m) ⊗ whole 1000)
 unfolding ◌⊗◌ ◌⊘◌ whole
-modulus_same r n m h e f = same.by_parts (rw (e, f, one_max m.num h) (omega arith))
+modulus_same r n m h e f = same.by_parts (rw (e, f, order.one_max m.num h) (omega arith))
 
 -- the weighted sum of a row lies between the bounds of its factors
 pub row_bounds : (g : SupportGrid) (j : ℕ) (c : Cell) → j < length (grid_ratios g) → c.first < length (grid_widths g) → c.second < length (grid_widths g) → (c.after + c.before ≤ row_sum (grid_factors g) (j * length (grid_widths g)) c) × (row_sum (grid_factors g) (j * length (grid_widths g)) c ≤ 2000 * (c.after + c.before))

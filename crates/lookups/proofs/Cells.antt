@@ -13,7 +13,7 @@ use lib.Seq.{drop-cons}
 use Rattle.fraction.specs.Fraction.{Fraction, Same, whole, ◌⊕◌, ◌⊗◌, ◌⊘◌, ◌⊖◌}
 use Rattle.fraction.specs.Ratio.{at_most}
 use Rattle.fraction.proofs.Sames as same
-use Rattle.lookups.specs.Cell.{mix, Finds}
+use Rattle.lookups.specs.Cell.{mix, Finds, Passed, Reached}
 use Rattle.lookups.specs.Line.{chord, line_from, line_at}
 use Rattle.lookups.specs.declared.cell.Cell.{Cell}
 
@@ -67,9 +67,9 @@ chord_same x1 x2 y1 y2 x A B W a b w pos =
         omega arith
 
 -- a cell at one point has its value
-level_mix : (k : ℕ) (c : Cell) → (c.first ≡ k) × (c.second ≡ k) → (c.after ≡ 1) × (c.before ≡ 0) → (ys : List Fraction) → Same (mix c ys) (get_or ys k (whole 0))
+level_mix : (k : ℕ) (c : Cell) → c.first ≡ k → c.second ≡ k → c.after ≡ 1 → c.before ≡ 0 → (ys : List Fraction) → Same (mix c ys) (get_or ys k (whole 0))
 unfolding mix ◌⊕◌ ◌⊗◌ ◌⊘◌ whole
-level_mix k c p w ys = same.by_parts (rw (p.0, p.1, w.0, w.1) (omega arith))
+level_mix k c f s a b ys = same.by_parts (rw (f, s, a, b) (omega arith))
 
 -- between x1 and x2, the products standing in variables
 cell_found : (x1 x2 i : ℕ) (x : Fraction) (low high : ℕ) (c : Cell) → low ≡ x1 * x.den → high ≡ x2 * x.den → low < x.num → x.num ≤ high → c.first ≡ i - 1 → c.second ≡ i → c.after ≡ high - x.num → c.before ≡ x.num - low → (ys : List Fraction) → Same (mix c ys) (chord x1 (get_or ys (i - 1) (whole 0)) x2 (get_or ys i (whole 0)) x)
@@ -107,12 +107,6 @@ module _ (xs : List ℕ) (ys : List Fraction) (x : Fraction) (a : ℕ) (b : Frac
   line_end : length xs ≤ i → all ≡ line_from a b (drop i xs) (drop i ys) x → b ≡ all
   line_end h e = sym (e ∙ ap (λ (l : List ℕ). line_from a b l (drop i ys) x) (drop_of_length-le xs h))
 
--- what is read at a place of the points
-pub map_at : {A : Type 0} (f : A → ℕ) (xs : List A) (i : ℕ) (x : A) (n : ℕ) → i < length xs → x ≡ get_or xs i x → n ≡ f x → n ≡ get_or (map f xs) i 0
-map_at f [] i x n h e k = absurd (not-suc-le-zero h)
-map_at f (y ∷ xs) zero x n h e k = k ∙ ap f e
-map_at f (y ∷ xs) (suc i) x n h e k = map_at f xs i x n (le_of_suc-le-suc h) e k
-
 -- x lies past the points up to the k-th, and what follows is the line from there
 past : (xs : List ℕ) (ys : List Fraction) (x : Fraction) → length ys ≡ length xs → (k : ℕ) → k < length xs → ((j : ℕ) → j ≤ k → get_or xs j 0 * x.den < x.num) → line_at xs ys x ≡ line_from (get_or xs k 0) (get_or ys k (whole 0)) (drop (k + 1) xs) (drop (k + 1) ys) x
 past xs ys x n zero h a = line_past_first xs ys x h n (a 0 (omega arith))
@@ -128,35 +122,29 @@ placed spot P (p ∷ ps) (suc k) h a = placed spot P ps k (le_of_suc-le-suc h) a
 
 -- the cells that serve the line at x, by the first point that is not passed
 module _ {A : Type 0} (spot : A → ℕ) (ps : List A) (x : Fraction) where
-  abbrev pub Passed : A → Type 0
-  Passed p = spot p * x.den < x.num
-
-  abbrev pub Reaches : A → Type 0
-  Reaches p = x.num ≤ spot p * x.den
-
   abbrev places : List ℕ
   places = map spot ps
 
-  passed_up : (i : ℕ) → i ≤ length ps → AllWithin Passed ps 0 i → (k : ℕ) → k + 1 ≤ i → (j : ℕ) → j ≤ k → get_or places j 0 * x.den < x.num
+  passed_up : (i : ℕ) → i ≤ length ps → AllWithin (Passed spot x) ps 0 i → (k : ℕ) → k + 1 ≤ i → (j : ℕ) → j ≤ k → get_or places j 0 * x.den < x.num
   passed_up i h a k l j m = placed spot (λ n. n * x.den < x.num) ps j (omega (arith, h, l, m)) (λ d. a j d (omega arith) (omega (arith, l, m)))
 
-  pub first_found : (c : Cell) → 1 ≤ length ps → HoldsAt Reaches ps 0 → (c.first ≡ 0) × (c.second ≡ 0) → (c.after ≡ 1) × (c.before ≡ 0) → Finds places x c
-  first_found c h t p w ys k =
-      same_to (level_mix 0 c p w ys)
+  pub first_found : (c : Cell) → 1 ≤ length ps → HoldsAt (Reached spot x) ps 0 → c.first ≡ 0 → c.second ≡ 0 → c.after ≡ 1 → c.before ≡ 0 → Finds places x c
+  first_found c h t f s a b ys k =
+      same_to (level_mix 0 c f s a b ys)
       (line_first places ys x (omega (arith, h, length-map ps spot)) k (placed spot (λ n. x.num ≤ n * x.den) ps 0 h t))
 
-  pub last_found : (c : Cell) → 1 ≤ length ps → AllWithin Passed ps 0 (length ps) → (c.first ≡ length ps - 1) × (c.second ≡ length ps - 1) → (c.after ≡ 1) × (c.before ≡ 0) → Finds places x c
-  last_found c h t p w ys k =
+  pub last_found : (c : Cell) → 1 ≤ length ps → AllWithin (Passed spot x) ps 0 (length ps) → c.first ≡ length ps - 1 → c.second ≡ length ps - 1 → c.after ≡ 1 → c.before ≡ 0 → Finds places x c
+  last_found c h t f s a b ys k =
       let last = length ps - 1 in
       let e = past places ys x k last (omega (arith, h, length-map ps spot)) (passed_up (length ps) (omega arith) t last (omega (arith, h))) in
-      same_to (level_mix last c p w ys)
+      same_to (level_mix last c f s a b ys)
       (line_end places ys x (get_or places last 0) (get_or ys last (whole 0)) (last + 1) (line_at places ys x) (omega (arith, h, length-map ps spot)) e)
 
-  pub between_found : (i low high : ℕ) (c : Cell) → 1 ≤ i → i < length ps → HoldsAt Reaches ps i → AllWithin Passed ps 0 i → low ≡ get_or places (i - 1) 0 * x.den → high ≡ get_or places i 0 * x.den → (c.first ≡ i - 1) × (c.second ≡ i) → (c.after ≡ high - x.num) × (c.before ≡ x.num - low) → Finds places x c
-  between_found i low high c h l r t a b p w ys k =
+  pub between_found : (i low high : ℕ) (c : Cell) → 1 ≤ i → i < length ps → HoldsAt (Reached spot x) ps i → AllWithin (Passed spot x) ps 0 i → low ≡ get_or places (i - 1) 0 * x.den → high ≡ get_or places i 0 * x.den → c.first ≡ i - 1 → c.second ≡ i → c.after ≡ high - x.num → c.before ≡ x.num - low → Finds places x c
+  between_found i low high c h l r t a b f g m n ys k =
       let s : i - 1 + 1 ≡ i = omega (arith, h) in
       let u = passed_up i (omega (arith, l)) t (i - 1) (omega (arith, h)) in
       let v = placed spot (λ n. x.num ≤ n * x.den) ps i l r in
       let e = rw s at (past places ys x k (i - 1) (omega (arith, l, length-map ps spot)) u) in
-      same_to (cell_found _ _ i x low high c a b (rw a (u (i - 1) (omega arith))) (rw b v) p.0 p.1 w.0 w.1 ys)
+      same_to (cell_found _ _ i x low high c a b (rw a (u (i - 1) (omega arith))) (rw b v) f g m n ys)
       (line_in places ys x _ _ i (line_at places ys x) (omega (arith, l, length-map ps spot)) (omega (arith, l, k, length-map ps spot)) e v)

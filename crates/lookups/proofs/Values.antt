@@ -6,11 +6,11 @@ use native.Mathlib.Nat.{mul-le-mul_right}
 use native.Mathlib.Omega.{arith}
 use lib.ListN.{length, get_or, length-map, get_or-map}
 use Rattle.fraction.specs.Fraction.{Fraction, Same, whole, ◌⊕◌, ◌⊗◌, ◌⊘◌}
+use Rattle.fraction.proofs.Order as order
 use Rattle.fraction.proofs.Sames as same
 use Rattle.lookups.specs.Cell.{mix, Finds}
 use Rattle.lookups.specs.Lookup.{curve_at}
 use Rattle.lookups.specs.declared.cell.Cell.{Cell}
-use Rattle.records.specs.declared.point.CurveRules.{CurveRules}
 use Rattle.records.specs.declared.point.Point.{Point}
 use Rattle.records.specs.declared.curve.Curve.{Curve}
 use Rattle.records.specs.declared.curve.CurveKind.{Ghosts}
@@ -42,9 +42,6 @@ fitting y z A B x d hy hz h l m =
     record { whole = weights_fit (A + B) d (weights_most 100000 x (A + B) d h l) m; sum = mean_most 50000 y z A B hy hz }
 
 -- a weighted sum over the whole weight
-pub one_max : (n : ℕ) → 0 < n → max 1 n ≡ n
-one_max n h = omega arith
-
 pub mean_same : (y z A B s : ℕ) (h : 0 < s) → max 1 (A + B) ≡ s → Same (record { num = y * A + z * B; den = s; pos = h }) ((whole y ⊗ whole A ⊕ whole z ⊗ whole B) ⊘ whole (A + B))
 unfolding ◌⊕◌ ◌⊗◌ ◌⊘◌ whole
 mean_same y z A B s h e = same.by_parts (rw e (omega arith))
@@ -59,7 +56,7 @@ pub value_same : (ps : List Point) (x : Fraction) (c : Cell) → Finds (map (λ 
 unfolding mix
 value_same ps x c f h =
     same.trans
-    (rw (heights_at ps c.first, heights_at ps c.second) (mean_same (get_or ps c.first nil).y (get_or ps c.second nil).y c.after c.before (c.after + c.before) h (one_max (c.after + c.before) c.positive)))
+    (rw (heights_at ps c.first, heights_at ps c.second) (mean_same (get_or ps c.first nil).y (get_or ps c.second nil).y c.after c.before (c.after + c.before) h (order.one_max (c.after + c.before) c.positive)))
     (f (map (λ p. whole p.y) ps) (length-map ps (λ p. whole p.y) ∙ sym (length-map ps (λ p. p.x))))
 
 -- what the lent points keep
@@ -67,8 +64,9 @@ pub curve_kept : {K : Type 0} {g : Ghosts K} (c : Curve K g) (ps : List Point) �
 curve_kept {g = g} c ps e = rw e (points_kept g.rules (points_of c) c.lawful)
 
 -- so the numbers of a curve's value fit
-pub curve_fits : (rs : CurveRules) (ps : List Point) → Kept rs ps → (rs.reach ≤ 100000) × (rs.most ≤ 50000) → (c : Cell) → c.first < length ps → c.second < length ps → (d : ℕ) → c.after + c.before ≤ max 1 (get_or (map (λ p. p.x) ps) c.second 0 * d) → d < 2 ^ 64 → Fitting (get_or ps c.first nil).y (get_or ps c.second nil).y c.after c.before
-curve_fits rs ps k b c f s d l m =
+pub curve_fits : {K : Type 0} {g : Ghosts K} (curve : Curve K g) (ps : List Point) → ps ≡ points_of curve → (g.rules.reach ≤ 100000) × (g.rules.most ≤ 50000) → (c : Cell) → c.first < length ps → c.second < length ps → (d : ℕ) → c.after + c.before ≤ max 1 (get_or (map (λ p. p.x) ps) c.second 0 * d) → d < 2 ^ 64 → Fitting (get_or ps c.first nil).y (get_or ps c.second nil).y c.after c.before
+curve_fits {g = g} curve ps e b c f s d l m =
+    let k = curve_kept curve ps e in
     let y = k.inside c.first f in
     let z = k.inside c.second s in
     fitting (get_or ps c.first nil).y (get_or ps c.second nil).y c.after c.before (get_or ps c.second nil).x d (omega (arith, y.3, b.1)) (omega (arith, z.3, b.1)) (rw (places_at ps c.second) at l) (omega (arith, z.1, b.0)) m

@@ -4,6 +4,13 @@ use Rattle.fraction.specs.Fraction.{Fraction, Same, whole, ◌⊕◌, ◌⊗◌,
 use Rattle.lookups.specs.Line.{line_at}
 use Rattle.lookups.specs.declared.cell.Cell.{Cell}
 
+-- x lies past a point, or not
+abbrev pub Passed : {A : Type 0} → (A → ℕ) → Fraction → A → Type 0
+Passed spot x p = spot p * x.den < x.num
+
+abbrev pub Reached : {A : Type 0} → (A → ℕ) → Fraction → A → Type 0
+Reached spot x p = x.num ≤ spot p * x.den
+
 -- the value that a cell makes of the points' values
 unfoldable pub mix : Cell → List Fraction → Fraction
 mix c ys = (slice_index_or ys c.first (whole 0) ⊗ whole c.after ⊕ slice_index_or ys c.second (whole 0) ⊗ whole c.before) ⊘ whole (c.after + c.before)

@@ -1,6 +1,7 @@
-ghost use Rattle.std.specs.Prelude.{map, ◌≡◌, ℕ, ◌+◌, ◌-◌, ◌*◌, ◌^◌, ◌<◌, ◌≤◌, max, length, slice_index};
+ghost use Rattle.std.specs.Prelude.{map, ◌≡◌, ℕ, ◌+◌, ◌-◌, ◌*◌, ◌^◌, ◌<◌, ◌≤◌, max, length, slice_index, MatchOption, HoldsAt};
+ghost use Rattle.std.specs.List.{AllWithin};
 ghost use Rattle.fraction.specs.Ratio.{value};
-ghost use Rattle.lookups.specs.Cell.{Finds};
+ghost use Rattle.lookups.specs.Cell.{Finds, Passed, Reached};
 
 use crate::cell::Cell;
 use fraction::Ratio;
@@ -30,6 +31,19 @@ impl Placed for Point {
     }
 }
 
+// The first of the points that `at` does not lie past. A search from the first and no halving: an axis has at most
+// eight points, and halving would ask of the callers that they rise.
+fn first_reached<P: Placed>(points: &[P], at: Ratio) -> Option<usize>
+    requires { at.den < 2 ^ 64 }
+    ensures { MatchOption result
+        (AllWithin (Passed P.spot (value at)) points.now 0 (length points.now))
+        (λ i. (i < length points.now) × HoldsAt (Reached P.spot (value at)) points.now i × AllWithin (Passed P.spot (value at)) points.now 0 i) }
+{
+    points
+        .iter()
+        .position(|point| at.num <= point.place() as u128 * at.den)
+}
+
 /// The cell of the points that `at` falls into, level beyond their ends.
 pub fn cell_of<P: Placed>(points: &[P], at: Ratio) -> Cell
     requires some { 1 ≤ length points.now }
@@ -37,12 +51,9 @@ pub fn cell_of<P: Placed>(points: &[P], at: Ratio) -> Cell
     ensures value { Finds (map P.spot points.now) (value at) result }
     ensures first { result.first < length points.now }
     ensures second { result.second < length points.now }
-    ensures small { result.after + result.before ≤ max 1 (slice_index (map P.spot points.now) result.second * at.den) }
+    ensures weights { result.after + result.before ≤ max 1 (slice_index (map P.spot points.now) result.second * at.den) }
 {
-    match points
-        .iter()
-        .position(|point| at.num <= point.place() as u128 * at.den)
-    {
+    match first_reached(points, at) {
         None => Cell::level(points.len() - 1),
         Some(0) => Cell::level(0),
         Some(i) => {
@@ -56,8 +67,10 @@ pub fn cell_of<P: Placed>(points: &[P], at: Ratio) -> Cell
 impl Cell {
     // At a point.
     fn level(i: usize) -> Self
-        ensures points { (result.first ≡ i) × (result.second ≡ i) }
-        ensures weights { (result.after ≡ 1) × (result.before ≡ 0) }
+        ensures first { result.first ≡ i }
+        ensures second { result.second ≡ i }
+        ensures after { result.after ≡ 1 }
+        ensures before { result.before ≡ 0 }
     {
         Cell {
             first: i,
@@ -69,9 +82,13 @@ impl Cell {
 
     // Between the points `i - 1` and `i`: the nearer one weighs more.
     fn between(i: usize, low: u128, high: u128, at: u128) -> Self
-        requires { (1 ≤ i) × ((low < at) × (at ≤ high)) }
-        ensures points { (result.first ≡ i - 1) × (result.second ≡ i) }
-        ensures weights { (result.after ≡ high - at) × (result.before ≡ at - low) }
+        requires inner { 1 ≤ i }
+        requires past { low < at }
+        requires reached { at ≤ high }
+        ensures first { result.first ≡ i - 1 }
+        ensures second { result.second ≡ i }
+        ensures after { result.after ≡ high - at }
+        ensures before { result.before ≡ at - low }
     {
         Cell {
             first: i - 1,

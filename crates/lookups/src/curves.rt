@@ -30,7 +30,8 @@ fn curve_value<K: CurveKind>(curve: &Curve<K>, at: Ratio) -> Ratio
 impl Pressure {
     // In the unit of a curve's places; not a From, since the unit changes.
     fn hundredths(self) -> Ratio
-        ensures { (result.num ≡ 100 * self.num) × (result.den ≡ self.den) }
+        ensures num { result.num ≡ 100 * self.num }
+        ensures den { result.den ≡ self.den }
     {
         Ratio {
             num: 100 * self.num as u128,
@@ -53,7 +54,8 @@ pub fn embedment_modulus(curve: &EmbedmentCurve, pressure: Pressure) -> Modulus
 // A hundredth of the value.
 fn hundredth(value: Ratio) -> Ratio
     requires { 100 * value.den < 2 ^ 128 }
-    ensures { (result.num ≡ value.num) × (result.den ≡ 100 * value.den) }
+    ensures num { result.num ≡ value.num }
+    ensures den { result.den ≡ 100 * value.den }
 {
     Ratio {
         num: value.num,

@@ -18,7 +18,7 @@ fn row_sum(grid: &SupportGrid, row: usize, across: Cell) -> u128
     requires row { row < length (grid_ratios grid.now) }
     requires first { across.first < length (grid_widths grid.now) }
     requires second { across.second < length (grid_widths grid.now) }
-    requires small { across.after + across.before ≤ 120000000 }
+    requires weights { across.after + across.before ≤ 120000000 }
     ensures value { result ≡ row_sum (grid_factors grid.now) (row * length (grid_widths grid.now)) across }
     ensures least { across.after + across.before ≤ result }
     ensures most { result ≤ 2000 * (across.after + across.before) }
@@ -52,7 +52,8 @@ fn crossed(grid: &SupportGrid, across: Cell, along: Cell) -> Ratio
 
 // The trench width over the outside diameter, hundredths.
 fn width_ratio(section: &Section, site: &Site) -> Ratio
-    ensures { (result.num ≡ 100 * site.now.trench) × (result.den ≡ section.now.outside) }
+    ensures num { result.num ≡ 100 * site.now.trench }
+    ensures den { result.den ≡ section.now.outside }
 {
     Ratio {
         num: 100 * site.trench as u128,
@@ -62,7 +63,8 @@ fn width_ratio(section: &Section, site: &Site) -> Ratio
 
 // The native over the embedment's modulus, thousandths.
 fn modulus_ratio(site: &Site, modulus: Modulus) -> Ratio
-    ensures { (result.num ≡ 1000 * site.now.native_modulus * modulus.den) × (result.den ≡ modulus.num) }
+    ensures num { result.num ≡ 1000 * site.now.native_modulus * modulus.den }
+    ensures den { result.den ≡ modulus.num }
 {
     Ratio {
         num: 1_000 * site.native_modulus as u128 * modulus.den as u128,

@@ -1,9 +1,8 @@
 -- A case: the design of five records that fit together, or why they do not.
-use Rattle.std.specs.Prelude.{◌+◌, ◌*◌, cond, Some, None, Ok, Err, Option, Result, nat_le, nat_lt}
-use Rattle.records.specs.Cause.{Refusal, refusal, stated}
+use Rattle.std.specs.Prelude.{◌+◌, ◌*◌, cond, Some, None, Option, nat_le, nat_lt}
+use Rattle.records.specs.Cause.{Refusal, refusal}
 use Rattle.records.specs.Lines.{EmbedmentCurve, ShapeCurve, embedment_points, shape_points, grid_widths, grid_ratios, grid_factors}
 use Rattle.records.specs.declared.fault.Cause.TheVariants.{Trench, Water}
-use Rattle.records.specs.declared.fault.Fault.{Fault}
 use Rattle.records.specs.declared.grid.SupportGrid.{SupportGrid}
 use Rattle.records.specs.declared.section.Section.{Section}
 use Rattle.records.specs.declared.site.Site.{Site}
@@ -31,12 +30,3 @@ abbrev pub case_refusal : Section → Site → Option Refusal
 case_refusal section site =
     cond (nat_le site.trench section.outside) (Some (refusal Trench 0))
     (cond (nat_lt (2 * site.fill + section.outside) (2 * site.water)) (Some (refusal Water 0)) None)
-
--- what making a case answers: its design, or the refusal
-abbrev pub answer : Result Case Fault → Result Design Refusal
-answer (Ok c) = Ok (design_of c)
-answer (Err f) = Err (stated f)
-
-abbrev pub unless_refused : Option Refusal → Design → Result Design Refusal
-unless_refused None d = Ok d
-unless_refused (Some e) d = Err e

@@ -16,7 +16,8 @@ pub struct Case<'a> {
 
 impl<'a> Case<'a> {
     ghost use Rattle.std.specs.Prelude.{◌≡◌};
-    ghost use Rattle.quantities.specs.Case.{answer, case_refusal, unless_refused, records_of};
+    ghost use Rattle.quantities.specs.Case.{design_of, case_refusal, records_of};
+    ghost use Rattle.records.specs.Cause.{answered, unless};
 
     /// The case of these records, or why they do not fit together.
     pub fn new(
@@ -26,7 +27,7 @@ impl<'a> Case<'a> {
         grid: &'a SupportGrid,
         site: Site,
     ) -> Result<Self, Fault>
-        ensures { answer result ≡ unless_refused (case_refusal section site) (records_of section embedment.now shape.now grid.now site) }
+        ensures { answered design_of result ≡ unless (case_refusal section site) (records_of section embedment.now shape.now grid.now site) }
     {
         if site.trench <= section.outside {
             return Err(Fault {

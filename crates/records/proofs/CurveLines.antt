@@ -37,16 +37,16 @@ line_lawful r ps ns e = by (curve_refusal r ns) refl e
     by (Some x) h e = let z : ◌≡◌ {A = ℕ} 0 1 = cc in absurd (omega arith)
 
 -- a line that has passed the tests makes a lawful curve, and states it
-pub curve_made : (r rules : CurveRules) (ns : List ℕ) (ps : List Point) → r ≡ rules → true ≡ curve_complete ns → None ≡ outside (Between 1 8 ∷ []) 2 (take 1 ns) → None ≡ outside (ranges r) 3 (rest ns) → ps ≡ paired (rest ns) → true ≡ chained (holds r.trend) ps → true ≡ chained (holds Gentle) ps → (Ok (curve_line ps) ≡ unless (curve_refusal rules ns) ns) × T (lawful_points rules ps)
-curve_made r rules ns ps q complete count fields p h g = (e, line_lawful rules ps ns e)
+pub curve_made : (r rules : CurveRules) (ns : List ℕ) (ps xs ys : List Point) → r ≡ rules → true ≡ curve_complete ns → None ≡ outside (Between 1 8 ∷ []) 2 (take 1 ns) → None ≡ outside (ranges r) 3 (rest ns) → ps ≡ paired (rest ns) → xs ≡ ps → true ≡ chained (holds r.trend) xs → ys ≡ ps → true ≡ chained (holds Gentle) ys → (Ok (curve_line ps) ≡ unless (curve_refusal rules ns) ns) × T (lawful_points rules ps)
+curve_made r rules ns ps xs ys q complete count fields p x h y g = (e, line_lawful rules ps ns e)
   where
     d : paired (rest ns) ≡ paired (drop 1 ns)
     d = ap paired (rest_is ns)
 
     e : Ok (curve_line ps) ≡ unless (curve_refusal rules ns) ns
     e =
-        let k = rw (p, d, q) at h in
-        let l = rw (p, d) at g in
+        let k = rw (x, p, d, q) at h in
+        let l = rw (y, p, d) at g in
         let f = rw (rest_is ns, q) at fields in
         rw (p, d, ← complete, ← count, ← f, ← k, ← l) (ap (λ (m : List ℕ). Ok m) (line_back ns complete))
 

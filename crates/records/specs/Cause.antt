@@ -1,5 +1,5 @@
 -- Why the console refuses: each cause by its number, and a refusal as it is printed.
-use Rattle.std.specs.Prelude.{ℕ, Bool, true, false, List, Some, None, Ok, Err, Option, Result}
+use Rattle.std.specs.Prelude.{ℕ, Bool, true, false, Some, None, Ok, Err, Option, Result}
 use Rattle.records.specs.declared.fault.Cause.{Cause}
 use Rattle.records.specs.declared.fault.Cause.TheVariants.{Place, Range, Order, Steep, Empty, Trench, Water, Figure, Claim, Tally, Writing, Part, Trailer, Length}
 use Rattle.records.specs.declared.fault.Fault.{Fault}
@@ -49,12 +49,12 @@ abbrev pub refused : {R : Type 0} → Result R Fault → Option Refusal
 refused (Ok r) = None
 refused (Err f) = Some (stated f)
 
--- what a maker answers: the fields of the record that it made, or the refusal
-abbrev pub answered : {R : Type 0} → (R → List ℕ) → Result R Fault → Result (List ℕ) Refusal
-answered line (Ok r) = Ok (line r)
-answered line (Err f) = Err (stated f)
+-- what a maker answers: what it made, as it is told, or the refusal
+abbrev pub answered : {R S : Type 0} → (R → S) → Result R Fault → Result S Refusal
+answered told (Ok r) = Ok (told r)
+answered told (Err f) = Err (stated f)
 
--- the fields as they stand, where nothing is refused
-abbrev pub unless : Option Refusal → List ℕ → Result (List ℕ) Refusal
-unless None ns = Ok ns
-unless (Some e) ns = Err e
+-- this, where nothing is refused
+abbrev pub unless : {S : Type 0} → Option Refusal → S → Result S Refusal
+unless None s = Ok s
+unless (Some e) s = Err e

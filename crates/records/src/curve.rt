@@ -26,7 +26,7 @@ pub trait CurveKind {
 
 /// How the embedment stiffens: x is a pressure in hundredths of psi, y a modulus in psi.
 #[derive(Clone, Copy)]
-pub struct Embedment {}
+pub struct Embedment;
 
 impl CurveKind for Embedment {
     ghost rules = { embedment_rules };
@@ -45,7 +45,7 @@ impl CurveKind for Embedment {
 
 /// How the shape factor falls: x is a pipe stiffness in hundredths of psi, y a factor in hundredths.
 #[derive(Clone, Copy)]
-pub struct Shape {}
+pub struct Shape;
 
 impl CurveKind for Shape {
     ghost rules = { shape_rules };
@@ -73,7 +73,7 @@ pub type EmbedmentCurve = Curve<Embedment>;
 
 pub type ShapeCurve = Curve<Shape>;
 
-// A derive does not reach over a ghost field of a generic struct.
+// By hand: of a generic struct with a ghost field, Clone cannot be derived.
 impl<K: CurveKind> Clone for Curve<K> {
     ghost is_clone = { λ x y. x ≡ y };
 
@@ -90,6 +90,7 @@ impl<K: CurveKind> Curve<K> {
     ghost use Rattle.records.specs.Lines.{points_of, line_of};
 
     /// The curve of these fields, as its line has them after the place, or why there is none.
+    #[tactic(auto, using(crate::proofs::CurveLines::curve_made))]
     pub fn new(fields: &[u64]) -> Result<Self, Fault>
         ensures { answered line_of result ≡ unless (curve_refusal K.rules fields.now) fields.now }
     {

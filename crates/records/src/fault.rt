@@ -42,6 +42,7 @@ pub enum Cause {
 #[derive(Clone, Copy, PartialEq, Eq, Debug)]
 pub struct Fault {
     pub cause: Cause,
+    // Not an Option: 0 is printed where no one field is at fault.
     pub field: u64,
 }
 

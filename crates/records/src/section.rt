@@ -29,6 +29,7 @@ pub struct Section {
     /// Tension strain limit, parts in 10,000.
     pub tension_limit: u64,
     /// Pipe stiffness, hundredths of psi; 0 where it is not given.
+    // Not an Option: the line states it so, and every promise speaks of the line.
     pub stiffness: u64,
     // Each order reads as one chain from its least to its most.
     ghost diameters: { (3000 ≤ inside) × (inside < centroid) × (centroid < outside) × (outside ≤ 120000) },
@@ -55,8 +56,8 @@ const STIFFNESS: Allowed = Allowed::Between(0, 100_000);
 impl Section {
     ghost use Rattle.records.specs.Lines.{section_line};
 
-    #[tactic(auto, using(crate::proofs::Sections::section_kept, crate::proofs::Sections::section_made))]
     /// The section of these fields, as its line has them after the place, or why there is none.
+    #[tactic(auto, using(crate::proofs::Sections::section_kept, crate::proofs::Sections::section_made))]
     pub fn new(fields: &[u64]) -> Result<Self, Fault>
         ensures { answered section_line result ≡ unless (section_refusal fields.now) fields.now }
     {

@@ -10,7 +10,7 @@ pub struct ShortList<T: Copy, const N: usize> {
     ghost few: { count ≤ N },
 }
 
-// A derive does not reach over a ghost field of a generic struct.
+// By hand: of a generic struct with a ghost field, Clone cannot be derived.
 impl<T: Copy, const N: usize> Clone for ShortList<T, N> {
     ghost is_clone = { λ x y. x ≡ y };
 

@@ -65,8 +65,8 @@ pub struct Site {
 impl Site {
     ghost use Rattle.records.specs.Lines.{site_line};
 
-    #[tactic(auto, using(crate::proofs::Sites::site_kept, crate::proofs::Sites::site_made))]
     /// The site of these fields, as its line has them after the place, or why there is none.
+    #[tactic(auto, using(crate::proofs::Sites::site_kept, crate::proofs::Sites::site_made))]
     pub fn new(fields: &[u64]) -> Result<Self, Fault>
         ensures { answered site_line result ≡ unless (site_refusal fields.now) fields.now }
     {

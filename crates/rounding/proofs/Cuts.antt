@@ -1,6 +1,6 @@
 -- The laws of a whole part, rounded either way.
-use Rattle.std.proofs.Common.{◌≡◌, ℕ, zero, suc, ◌+◌, ◌-◌, ◌*◌, ◌<◌, ◌≤◌, sym, ap, mul-le-mul_right, lt_of_mul-lt-mul_right, mul-lt-mul_of_pos_right, mul-pos, div-mul-le_self, le_of_mul-le-mul_right, arith}
-use native.Mathlib.Nat.{div-eq_of_lt-le, lt-div-mul-add}
+use Rattle.std.proofs.Common.{◌≡◌, ℕ, zero, suc, ◌+◌, ◌-◌, ◌*◌, ◌^◌, ◌<◌, ◌≤◌, sym, ap, ◌∙◌, mul-le-mul_left, mul-le-mul_right, lt_of_mul-lt-mul_right, mul-lt-mul_of_pos_right, mul-pos, div-mul-le_self, le_of_mul-le-mul_right, arith}
+use native.Mathlib.Nat.{pow-zero, div-eq_of_lt-le, lt-div-mul-add}
 use Rattle.rounding.specs.Cut.{cut, turned}
 use Rattle.rounding.specs.declared.rounding.Rounding.{Rounding}
 use Rattle.rounding.specs.declared.rounding.Rounding.TheVariants.{Down, Up}
@@ -65,6 +65,9 @@ cut_one t n = cut_is t n 1 n (omega arith) (by t)
     by Down = (omega arith, omega arith)
     by Up = (omega arith, omega arith)
 
+pub cut_none : (t : Rounding) (n B : ℕ) → cut t n (B ^ 0) ≡ n
+cut_none t n B = ap (λ x. cut t n x) (pow-zero B) ∙ cut_one t n
+
 -- taking away turns the rounding round
 pub cut_minus : (t : Rounding) (x n a : ℕ) → 0 < a → n ≤ x * a → cut t (x * a - n) a ≡ x - cut (turned t) n a
 cut_minus t x n a pa le = cut_is t (x * a - n) a _ pa (by t (cut (turned t) n a) (cuts (turned t) n a pa))
@@ -93,6 +96,13 @@ cut_most t n a k pa h = by t (cut t n a) (cuts t n a pa)
     by : (t : Rounding) (q : ℕ) → Cuts t n a q → q ≤ k
     by Down q c = le_of_mul-le-mul_right {k = a} (omega arith) pa
     by Up q c = let l : q < k + 1 = lt_of_mul-lt-mul_right a (omega arith) in omega arith
+
+-- cutting a digit off leaves less
+pub cut_shrinks : (t : Rounding) (n a : ℕ) → 2 ≤ a → 2 ≤ n → cut t n a < n
+cut_shrinks t n a b h =
+    let room : n ≤ (n - 1) * a = omega (arith, mul-le-mul_left (n - 1) b) in
+    let p = cut_most t n a (n - 1) (omega arith) room in
+    omega arith
 
 pub cut_below : (n a k : ℕ) → 0 < a → n < k * a → cut Down n a < k
 cut_below n a k pa h = let c = cuts Down n a pa in lt_of_mul-lt-mul_right a (omega arith)

@@ -7,7 +7,7 @@ use Rattle.rounding.specs.Cut.{cut}
 use Rattle.rounding.specs.Rounded.{wider}
 use Rattle.rounding.specs.declared.rounding.Rounding.{Rounding}
 use Rattle.rounding.specs.declared.rounding.Rounding.TheVariants.{Down, Up}
-use Rattle.rounding.proofs.Cuts.{cut_is, cut_cut, cut_one, cut_most}
+use Rattle.rounding.proofs.Cuts.{cut_is, cut_cut, cut_most}
 use Rattle.rounding.proofs.Ends.{base_pos, power_pos}
 use Rattle.rounding.proofs.Scalings.{power_next}
 
@@ -56,9 +56,6 @@ module _ {B S W bias : ℕ} (z : Radix B S W bias) where
   pub cut_less : (t : Rounding) (n d : ℕ) → 0 < d → cut t n d ≤ n
   cut_less t n d pos = cut_most t n d n pos (let h = mul-le-mul_left n pos in omega arith)
 
-  pub cut_none : (t : Rounding) (n : ℕ) → cut t n (B ^ 0) ≡ n
-  cut_none t n = ap (λ x. cut t n x) (pow-zero B) ∙ cut_one t n
-
   -- all of the digits are cut off
   pub cut_all : (t : Rounding) (n k : ℕ) → n < W * B → 32 ≤ k → cut t n (W * B) ≡ cut t n (B ^ k)
   cut_all t n k h l =
@@ -77,14 +74,6 @@ module _ {B S W bias : ℕ} (z : Radix B S W bias) where
       let one : k + 1 ≡ suc k = omega arith in
       ap (λ x. cut t x B) e ∙ cut_cut t n (B ^ k) B (power_pos z k) (base_pos z)
       ∙ ap (λ x. cut t n x) (sym (pow-suc B k) ∙ ap (λ x. B ^ x) (sym one))
-
-  pub cut_shrinks : (t : Rounding) (n : ℕ) → 2 ≤ n → cut t n B < n
-  cut_shrinks t n h =
-      let p = cut_most t n B (n - 1) (base_pos z) (room n B h z.0.0) in
-      omega arith
-    where
-      room : (n B : ℕ) → 2 ≤ n → 2 ≤ B → n ≤ (n - 1) * B
-      room n B h b = let e : (n - 1) * 2 ≤ (n - 1) * B = mul-le-mul_left (n - 1) b in omega arith
 
 pub less_power : (B f : ℕ) → 0 < f → B ^ f ≡ B * B ^ (f - 1)
 less_power B f h =

@@ -1,5 +1,5 @@
 -- What rounding an exact quantity to an end gives.
-use Rattle.std.proofs.Common.{◌≡◌, ℕ, zero, suc, ◌+◌, ◌-◌, ◌*◌, ◌^◌, ◌<◌, ◌≤◌, cond, ltb, Some, None, Option, sym, refl, ap, ◌∙◌, subst, le_refl, mul_assoc, mul_comm, mul-le-mul_left, mul-pos, pow-suc, lt_of_not-le, mul-one, arith, le-ltb, lt-ltb, eq-eqb, ne_eqb, le-leb}
+use Rattle.std.proofs.Common.{◌≡◌, ℕ, zero, suc, ◌+◌, ◌*◌, ◌^◌, ◌<◌, ◌≤◌, cond, ltb, Some, None, Option, sym, refl, ap, ◌∙◌, subst, le_refl, mul_assoc, mul_comm, mul-le-mul_left, mul-pos, pow-suc, lt_of_not-le, mul-one, arith, le-ltb, lt-ltb, eq-eqb, ne_eqb, le-leb}
 use mathlib.Core.Logic.{dite}
 use native.Mathlib.Decide.{dec_le}
 use native.Mathlib.Nat.{pow-le-pow_right, pow-zero, one-le-pow}
@@ -11,7 +11,7 @@ use Rattle.rounding.specs.declared.radix.Radix.{Ghosts}
 use Rattle.rounding.specs.declared.rounding.Rounding.{Rounding}
 use Rattle.rounding.specs.declared.rounding.Rounding.TheVariants.{Down, Up}
 use Rattle.rounding.specs.declared.end.End.{End}
-use Rattle.rounding.proofs.Cuts.{cut_cut, cut_one, cut_least, cut_most, cut_below, cut_some}
+use Rattle.rounding.proofs.Cuts.{cut_cut, cut_least, cut_most, cut_below, cut_some, cut_shrinks, cut_none}
 use Rattle.rounding.proofs.Ends.{base_pos, power_pos}
 
 module _ (t : Rounding) (B L : ℕ) (b : 2 ≤ B) (l : 2 ≤ L) where
@@ -24,30 +24,19 @@ module _ (t : Rounding) (B L : ℕ) (b : 2 ≤ B) (l : 2 ≤ L) where
   unfolding surplus
   surplus_more k n h = ap (λ x. cond x 0 (suc (surplus t B L k (cut t n B)))) (le-ltb n L h)
 
-  shrinks : (n : ℕ) → 2 ≤ n → cut t n B < n
-  shrinks n h =
-      let p = cut_most t n B (n - 1) (omega arith) (room n B h b) in
-      omega arith
-    where
-      room : (n B : ℕ) → 2 ≤ n → 2 ≤ B → n ≤ (n - 1) * B
-      room n B h b = let e : (n - 1) * 2 ≤ (n - 1) * B = mul-le-mul_left (n - 1) b in omega arith
-
   base : 0 < B
   base = omega arith
-
-  whole_cut : (n : ℕ) → cut t n (B ^ 0) ≡ n
-  whole_cut n = ap (λ x. cut t n x) (pow-zero B) ∙ cut_one t n
 
   next_cut : (n i : ℕ) → cut t (cut t n B) (B ^ i) ≡ cut t n (B ^ suc i)
   next_cut n i = cut_cut t n B (B ^ i) base (one-le-pow i B base) ∙ ap (λ x. cut t n x) (mul_comm B (B ^ i) ∙ sym (pow-suc B i))
 
   -- the digits to cut off: too many are left until then
   pub surplus_is : (e k n : ℕ) → n ≤ k → cut t n (B ^ e) < L → ((i : ℕ) → i < e → L ≤ cut t n (B ^ i)) → surplus t B L k n ≡ e
-  surplus_is zero k n f h o = surplus_none k n (subst (λ (x : ℕ). x < L) (whole_cut n) h)
-  surplus_is (suc e) zero n f h o = let many : L ≤ n = subst (λ (x : ℕ). L ≤ x) (whole_cut n) (o zero (omega arith)) in absurd (omega arith)
+  surplus_is zero k n f h o = surplus_none k n (subst (λ (x : ℕ). x < L) (cut_none t n B) h)
+  surplus_is (suc e) zero n f h o = let many : L ≤ n = subst (λ (x : ℕ). L ≤ x) (cut_none t n B) (o zero (omega arith)) in absurd (omega arith)
   surplus_is (suc e) (suc k) n f h o =
-      let many : L ≤ n = subst (λ (x : ℕ). L ≤ x) (whole_cut n) (o zero (omega arith)) in
-      let s = shrinks n (omega arith) in
+      let many : L ≤ n = subst (λ (x : ℕ). L ≤ x) (cut_none t n B) (o zero (omega arith)) in
+      let s = cut_shrinks t n B b (omega arith) in
       surplus_more k n many
       ∙ ap suc
       (surplus_is e k (cut t n B) (omega arith)
@@ -57,10 +46,10 @@ module _ (t : Rounding) (B L : ℕ) (b : 2 ≤ B) (l : 2 ≤ L) where
   ended : (k n : ℕ) → n < L → (cut t n (B ^ surplus t B L k n) < L) × ((i : ℕ) → i < surplus t B L k n → L ≤ cut t n (B ^ i))
   ended k n h =
       let e = surplus_none k n h in
-      (subst (λ (x : ℕ). cut t n (B ^ x) < L) (sym e) (subst (λ (x : ℕ). x < L) (sym (whole_cut n)) h), λ i l. absurd (omega (arith, e)))
+      (subst (λ (x : ℕ). cut t n (B ^ x) < L) (sym e) (subst (λ (x : ℕ). x < L) (sym (cut_none t n B)) h), λ i l. absurd (omega (arith, e)))
 
   later : (n : ℕ) → L ≤ n → (k : ℕ) → ((i : ℕ) → i < k → L ≤ cut t (cut t n B) (B ^ i)) → (i : ℕ) → i < suc k → L ≤ cut t n (B ^ i)
-  later n many k f zero l = subst (λ (x : ℕ). L ≤ x) (sym (whole_cut n)) many
+  later n many k f zero l = subst (λ (x : ℕ). L ≤ x) (sym (cut_none t n B)) many
   later n many k f (suc i) l = subst (λ (x : ℕ). L ≤ x) (next_cut n i) (f i (omega arith))
 
   -- and that is where cutting ends
@@ -69,7 +58,7 @@ module _ (t : Rounding) (B L : ℕ) (b : 2 ≤ B) (l : 2 ≤ L) where
   surplus_ends (suc k) n f =
       dite (dec_le L n)
       (λ many.
-      let s = shrinks n (omega arith) in
+      let s = cut_shrinks t n B b (omega arith) in
       let r = surplus_ends k (cut t n B) (omega arith) in
       let e = surplus_more k n many in (
         subst (λ (x : ℕ). cut t n (B ^ x) < L) (sym e) (subst (λ (x : ℕ). x < L) (next_cut n (surplus t B L k (cut t n B))) r.0),

@@ -1,5 +1,5 @@
 -- A quantity P / Q at one exponent, counted from another.
-use Rattle.std.proofs.Common.{◌≡◌, ℕ, zero, suc, ◌+◌, ◌-◌, ◌*◌, ◌^◌, ◌<◌, ◌≤◌, cond, None, sym, ap, ◌∙◌, subst, le_of_lt, mul-le-mul_right, mul-le-mul, le_antisymm, lt_of_mul-lt-mul_right, mul-le-mul_left, mul-lt-mul_of_pos_right, mul-pos, pow-suc, le_of_mul-le-mul_right, arith, pow-add, ne_eqb}
+use Rattle.std.proofs.Common.{◌≡◌, ℕ, zero, suc, ◌+◌, ◌-◌, ◌*◌, ◌^◌, ◌<◌, ◌≤◌, cond, None, sym, refl, ap, ◌∙◌, subst, le_of_lt, mul-le-mul_right, mul-le-mul, le_antisymm, lt_of_mul-lt-mul_right, mul-le-mul_left, mul-lt-mul_of_pos_right, mul-pos, pow-suc, le_of_mul-le-mul_right, arith, pow-add, ne_eqb}
 use native.Mathlib.Nat.{pow-le-pow_right, pow-zero}
 use Rattle.rounding.specs.Radix.{Radix}
 use Rattle.rounding.specs.Cut.{cut}
@@ -56,10 +56,10 @@ scales_fit {B} {S} {W} z t {P = P} {Q = Q} s =
     (omega arith, omega arith)
 
 -- the products of two ends' digits
-module _ {B S W bias : ℕ} (z : Radix B S W bias) (t : Rounding) (da db ea eb k Q m : ℕ) where
-  pub product_scales : B ^ k ≡ Q → m ≡ cut t (da * db) Q → W * Q ≤ da * db → da * db < W * B * Q → Scales B W t (da * B ^ ea * (db * B ^ eb)) (B ^ bias) (da * db) Q m (ea + eb + k) bias
-  product_scales q is least most =
-      let sum : B ^ (ea + eb + k) ≡ B ^ ea * B ^ eb * Q = pow-add B (ea + eb) k ∙ ap (λ x. x * B ^ k) (pow-add B ea eb) ∙ ap (λ x. B ^ ea * B ^ eb * x) q in
+module _ {B S W bias : ℕ} (z : Radix B S W bias) (t : Rounding) (da db ea eb k Q m from : ℕ) where
+  product_scales : from ≡ ea + eb + k → B ^ k ≡ Q → m ≡ cut t (da * db) Q → W * Q ≤ da * db → da * db < W * B * Q → Scales B W t (da * B ^ ea * (db * B ^ eb)) (B ^ bias) (da * db) Q m from bias
+  product_scales f q is least most =
+      let sum : B ^ from ≡ B ^ ea * B ^ eb * Q = ap (λ x. B ^ x) f ∙ pow-add B (ea + eb) k ∙ ap (λ x. x * B ^ k) (pow-add B ea eb) ∙ ap (λ x. B ^ ea * B ^ eb * x) q in
       record {
         some = power_pos z bias;
         parts = subst (λ (x : ℕ). 0 < x) q (power_pos z k);
@@ -70,11 +70,11 @@ module _ {B S W bias : ℕ} (z : Radix B S W bias) (t : Rounding) (da db ea eb k
       }
 
 -- the quotient of two ends' digits, of which the first is raised by k digits
-module _ {B S W bias : ℕ} (z : Radix B S W bias) (t : Rounding) (da db ea eb k F m : ℕ) where
-  pub quotient_scales : B ^ k ≡ F → 0 < db → m ≡ cut t (da * F) db → W * db ≤ da * F → da * F < W * B * db → Scales B W t (da * B ^ ea * B ^ bias) (db * B ^ eb) (da * F) db m (ea + bias) (eb + k)
-  quotient_scales f pos is least most =
+module _ {B S W bias : ℕ} (z : Radix B S W bias) (t : Rounding) (da db ea eb k F m floor : ℕ) where
+  quotient_scales : floor ≡ eb + k → B ^ k ≡ F → 0 < db → m ≡ cut t (da * F) db → W * db ≤ da * F → da * F < W * B * db → Scales B W t (da * B ^ ea * B ^ bias) (db * B ^ eb) (da * F) db m (ea + bias) floor
+  quotient_scales g f pos is least most =
       let high = pow-add B ea bias in
-      let low : B ^ (eb + k) ≡ B ^ eb * F = pow-add B eb k ∙ ap (λ x. B ^ eb * x) f in
+      let low : B ^ floor ≡ B ^ eb * F = ap (λ x. B ^ x) g ∙ pow-add B eb k ∙ ap (λ x. B ^ eb * x) f in
       record {
         some = mul-pos pos (power_pos z eb);
         parts = pos;
@@ -96,7 +96,7 @@ module _ {R : Type 0} {g : Ghosts R} (a b : End R g) where
   pub limit_square : g.FULL * g.BASE * (g.FULL * g.BASE) ≤ 2 ^ 62
   limit_square = let h = g.lawful.1.1 in omega (arith, mul-le-mul h h)
 
-  pub product_most : a.digits * b.digits < g.FULL * g.BASE * (g.FULL * g.BASE)
+  product_most : a.digits * b.digits < g.FULL * g.BASE * (g.FULL * g.BASE)
   product_most =
       let f = a.few in
       let fb = b.few in
@@ -111,14 +111,14 @@ module _ {R : Type 0} {g : Ghosts R} (a b : End R g) where
       by (suc m) zero h = absurd (omega arith)
       by (suc m) (suc n) h = (omega arith, omega arith)
 
-  pub product_least : (a.digits * b.digits ≡ 0 → ⊥) → g.FULL * g.FULL ≤ a.digits * b.digits
+  product_least : (a.digits * b.digits ≡ 0 → ⊥) → g.FULL * g.FULL ≤ a.digits * b.digits
   product_least n =
       let s = both_some (omega arith) in
       mul-le-mul (a.full s.0) (b.full s.1)
 
 -- the digits of a quotient, raised by one digit more where the first are fewer
 module _ {R : Type 0} {g : Ghosts R} (a b : End R g) where
-  pub quotient_low : 0 < a.digits → a.digits < b.digits → (g.FULL * b.digits ≤ a.digits * (g.FULL * g.BASE)) × (a.digits * (g.FULL * g.BASE) < g.FULL * g.BASE * b.digits)
+  quotient_low : 0 < a.digits → a.digits < b.digits → (g.FULL * b.digits ≤ a.digits * (g.FULL * g.BASE)) × (a.digits * (g.FULL * g.BASE) < g.FULL * g.BASE * b.digits)
   quotient_low some l =
       let w = wider g.lawful in
       let pos : 0 < g.FULL * g.BASE = omega arith in (
@@ -126,7 +126,7 @@ module _ {R : Type 0} {g : Ghosts R} (a b : End R g) where
         omega (arith, mul-lt-mul_of_pos_right l pos),
       )
 
-  pub quotient_high : 0 < b.digits → b.digits ≤ a.digits → (g.FULL * b.digits ≤ a.digits * g.FULL) × (a.digits * g.FULL < g.FULL * g.BASE * b.digits)
+  quotient_high : 0 < b.digits → b.digits ≤ a.digits → (g.FULL * b.digits ≤ a.digits * g.FULL) × (a.digits * g.FULL < g.FULL * g.BASE * b.digits)
   quotient_high some l =
       let pos : 0 < g.FULL = let z = g.lawful in omega arith in (
         omega (arith, mul-le-mul_right g.FULL l),
@@ -137,3 +137,29 @@ module _ {R : Type 0} {g : Ghosts R} (a b : End R g) where
   divided_by t some =
       let p = mul-pos some (power_pos g.lawful b.exponent) in
       ap (λ x. cond x None (rounded {g = g} t (units a * g.BASE ^ g.BIAS) (units b))) (ne_eqb (units b) 0 (λ e. omega arith))
+
+-- a product and a quotient by their digits, as the code finds them
+module _ {R : Type 0} {g : Ghosts R} (a b : End R g) (t : Rounding) (full limit places bias m : ℕ) (f : full ≡ g.FULL) (l : limit ≡ g.FULL * g.BASE) (p : places ≡ g.PLACES) (q : bias ≡ g.BIAS) where
+  pub narrow_product : m ≡ cut t (a.digits * b.digits) full → (a.digits * b.digits ≡ 0 → ⊥) → a.digits * b.digits < limit * full → Scales g.BASE g.FULL t (units a * units b) (g.BASE ^ g.BIAS) (a.digits * b.digits) g.FULL m (a.exponent + b.exponent + places) bias
+  narrow_product is some most =
+      rw (p, q)
+      (product_scales g.lawful t a.digits b.digits a.exponent b.exponent g.PLACES g.FULL m _ refl g.lawful.0.2 (rw f at is) (product_least a b some) (rw (l, f) at most))
+
+  pub wide_product : m ≡ cut t (a.digits * b.digits) limit → limit * full ≤ a.digits * b.digits → Scales g.BASE g.FULL t (units a * units b) (g.BASE ^ g.BIAS) (a.digits * b.digits) (g.FULL * g.BASE) m (a.exponent + b.exponent + places + 1) bias
+  wide_product is least =
+      rw (p, q)
+      (let h : g.FULL * g.BASE * g.FULL ≤ a.digits * b.digits = rw (l, f) at least in
+      product_scales g.lawful t a.digits b.digits a.exponent b.exponent (g.PLACES + 1) (g.FULL * g.BASE) m _ (omega arith) (power_next g.lawful) (rw l at is) (omega (arith, h)) (product_most a b))
+
+module _ {R : Type 0} {g : Ghosts R} (a b : End R g) (t : Rounding) (raised places bias m : ℕ) (p : places ≡ g.PLACES) (q : bias ≡ g.BIAS) (is : m ≡ cut t (a.digits * raised) b.digits) (some : b.digits ≡ 0 → ⊥) where
+  pub low_quotient : raised ≡ g.FULL * g.BASE → (a.digits ≡ 0 → ⊥) → a.digits < b.digits → Scales g.BASE g.FULL t (units a * g.BASE ^ g.BIAS) (units b) (a.digits * (g.FULL * g.BASE)) b.digits m (a.exponent + bias) (b.exponent + places + 1)
+  low_quotient l n h =
+      let k = quotient_low a b (omega (arith, n)) h in
+      rw (p, q)
+      (quotient_scales g.lawful t a.digits b.digits a.exponent b.exponent (g.PLACES + 1) (g.FULL * g.BASE) m _ (omega arith) (power_next g.lawful) (omega (arith, some)) (rw l at is) k.0 k.1)
+
+  pub high_quotient : raised ≡ g.FULL → b.digits ≤ a.digits → Scales g.BASE g.FULL t (units a * g.BASE ^ g.BIAS) (units b) (a.digits * g.FULL) b.digits m (a.exponent + bias) (b.exponent + places)
+  high_quotient f h =
+      let k = quotient_high a b (omega (arith, some)) h in
+      rw (p, q)
+      (quotient_scales g.lawful t a.digits b.digits a.exponent b.exponent g.PLACES g.FULL m _ refl g.lawful.0.2 (omega (arith, some)) (rw f at is) k.0 k.1)

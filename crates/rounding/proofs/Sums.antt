@@ -140,10 +140,10 @@ module _ {R : Type 0} {g : Ghosts R} (a b : End R g) where
     rest_most : cut (turned t) b.digits (g.BASE ^ (gap - 1)) ≤ g.FULL
     rest_most = cut_most (turned t) b.digits (g.BASE ^ (gap - 1)) g.FULL (power_pos g.lawful (gap - 1)) (omega (arith, b.few, mul-le-mul_left g.FULL lift))
 
-    pub far_digits : (cut (turned t) b.digits (g.BASE ^ (gap - 1)) ≤ a.digits * g.BASE) × (g.FULL ≤ a.digits * g.BASE - cut (turned t) b.digits (g.BASE ^ (gap - 1)))
+    far_digits : (cut (turned t) b.digits (g.BASE ^ (gap - 1)) ≤ a.digits * g.BASE) × (g.FULL ≤ a.digits * g.BASE - cut (turned t) b.digits (g.BASE ^ (gap - 1)))
     far_digits = let r = rest_most in let p = mul-le-mul_right g.BASE top in let w = wider g.lawful in (omega arith, omega arith)
 
-    pub far_stands : Stands g.BASE g.FULL t (units a - units b) 1 (a.digits * g.BASE - cut (turned t) b.digits (g.BASE ^ (gap - 1))) (a.exponent - 1)
+    far_stands : Stands g.BASE g.FULL t (units a - units b) 1 (a.digits * g.BASE - cut (turned t) b.digits (g.BASE ^ (gap - 1))) (a.exponent - 1)
     far_stands =
         let z = g.lawful in
         let e = a.exponent - 1 in
@@ -161,3 +161,18 @@ module _ {R : Type 0} {g : Ghosts R} (a b : End R g) where
         ∙ ap (λ x. a.digits * g.BASE - x) (cut_lower g.lawful (turned t) b.digits e b.exponent (omega arith))
         ∙ ap (λ x. a.digits * g.BASE - cut (turned t) b.digits (g.BASE ^ x)) k in
         stands_one g.lawful t (units a - units b) _ e (sym is) (omega arith)
+
+  -- as the code finds them
+  pub record Far (t : Rounding) (base less : ℕ) : Type 0 where
+    pub under : less ≤ a.digits * base
+    pub full : g.FULL ≤ a.digits * base - less
+    pub few : a.digits * base - less ≤ (g.FULL * g.BASE - 1) * g.BASE
+    pub stands : Stands g.BASE g.FULL t (units a - units b) 1 (a.digits * base - less) (a.exponent - 1)
+
+  pub far_found : (t turn : Rounding) (base less : ℕ) → base ≡ g.BASE → turn ≡ turned t → less ≡ cut turn b.digits (g.BASE ^ (a.exponent - b.exponent - 1)) → (a.exponent - b.exponent ≡ 0 → ⊥) → (a.exponent - b.exponent ≡ 1 → ⊥) → Far t base less
+  far_found t turn base less p q r level next =
+      let gap = a.exponent - b.exponent in
+      let far : 2 ≤ gap = omega (arith, level, next) in
+      let d = far_digits t gap refl far in
+      let few : a.digits * g.BASE ≤ (g.FULL * g.BASE - 1) * g.BASE = mul-le-mul_right g.BASE (let m : a.digits ≤ g.FULL * g.BASE - 1 = omega (arith, a.few) in m) in
+      rw (p, r, q) (record { under = d.0; full = d.1; few = omega (arith, few); stands = far_stands t gap refl far })

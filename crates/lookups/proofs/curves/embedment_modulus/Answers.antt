@@ -9,4 +9,4 @@ use Rattle.lookups.proofs.curves.embedment_modulus.Goals as goal
 pub returns : goal.returns
 returns c =
     same.trans (same.by_parts refl)
-    (curve_moved (embedment_points c.args.curve.now) _ _ _ (hundred_times (value c.hundredths.result) (pressure_of c.args.pressure) c.hundredths.ensures.0 c.hundredths.ensures.1) c.curve_value-value.ensures.value)
+    (curve_moved (embedment_points c.args.curve.now) _ _ _ (hundred_times (value c.hundredths.result) (pressure_of c.args.pressure) c.hundredths.ensures.num c.hundredths.ensures.den) c.curve_value-value.ensures.value)

@@ -16,8 +16,8 @@ crossed-requires c =
     record {
       across_within = (x.first, x.second);
       along_within = (y.first, y.second);
-      across_small = cell_fits 1000 120000 _ _ _ (grid_widths g) (lit≤ tt) x.small (q.widths _ x.second).1 (omega (arith, c.width_ratio.ensures.1, c.args.section.now.diameters.3));
-      along_small = cell_fits 5000 3456000000000000000 _ _ _ (grid_ratios g) (lit≤ tt) y.small (q.ratios _ y.second).1 (omega (arith, c.args.modulus.most, c.args.modulus.fits));
+      across_small = cell_fits 1000 120000 _ _ _ (grid_widths g) (lit≤ tt) x.weights (q.widths _ x.second).1 (omega (arith, c.width_ratio.ensures.den, c.args.section.now.diameters.3));
+      along_small = cell_fits 5000 3456000000000000000 _ _ _ (grid_ratios g) (lit≤ tt) y.weights (q.ratios _ y.second).1 (omega (arith, c.args.modulus.most, c.args.modulus.fits));
     }
 
 pub returns-clause-value : goal.returns-clause-value
@@ -30,6 +30,6 @@ returns-clause-value c =
     let r = c.modulus_ratio.ensures in
     let e = c.crossed.ensures in
     found_factor g _ _ c.crossed.result c.cell_of-across.result c.cell_of-along.result
-    (own_finds (grid_widths g) _ (width_same (value c.width_ratio.result) c.args.site.now.trench c.args.section.now.outside (omega (arith, c.args.section.now.diameters)) w.0 w.1) x.value)
-    (own_finds (grid_ratios g) _ (modulus_same (value c.modulus_ratio.result) c.args.site.now.native_modulus (modulus_of m) (omega (arith, m.least, m.positive)) r.0 r.1) y.value)
+    (own_finds (grid_widths g) _ (width_same (value c.width_ratio.result) c.args.site.now.trench c.args.section.now.outside (omega (arith, c.args.section.now.diameters)) w.num w.den) x.value)
+    (own_finds (grid_ratios g) _ (modulus_same (value c.modulus_ratio.result) c.args.site.now.native_modulus (modulus_of m) (omega (arith, m.least, m.positive)) r.num r.den) y.value)
     x.first x.second y.first y.second e.num e.den

@@ -1,6 +1,3 @@
-use Rattle.std.proofs.Common.{ap, ◌∙◌}
-use Rattle.records.specs.declared.point.Rule.TheVariants.{Gentle}
-use Rattle.records.specs.Curve.{holds, chained}
 use Rattle.records.proofs.CurveLines.{curve_made}
 use Rattle.records.proofs.curve.Curve.new.Goals as goal
 
@@ -8,13 +5,6 @@ pub invariant_of-result : goal.invariant_of-result
 invariant_of-result g c =
     record {
       lawful =
-          (curve_made _ _ _ _ c.rules-rules.ensures c.if-not-curve_complete.ensures c.in_ok-in_ranges.ensures c.in_ok-in_ranges-2.ensures c.paired-points.ensures
-          (c.if-not-holds_along.ensures ∙ ap (chained (holds _)) c.as_slice.ensures)
-          (c.if-not-holds_along-2.ensures ∙ ap (chained (holds Gentle)) c.as_slice-2.ensures)).1;
+          (curve_made _ _ _ _ _ _ c.rules-rules.ensures c.if-not-curve_complete.ensures c.in_ok-in_ranges.ensures c.in_ok-in_ranges-2.ensures c.paired-points.ensures c.as_slice.ensures c.if-not-holds_along.ensures c.as_slice-2.ensures
+          c.if-not-holds_along-2.ensures).1;
     }
-
-pub returns : goal.returns
-returns g c =
-    (curve_made _ _ _ _ c.rules-rules.ensures c.if-not-curve_complete.ensures c.in_ok-in_ranges.ensures c.in_ok-in_ranges-2.ensures c.paired-points.ensures
-    (c.if-not-holds_along.ensures ∙ ap (chained (holds _)) c.as_slice.ensures)
-    (c.if-not-holds_along-2.ensures ∙ ap (chained (holds Gentle)) c.as_slice-2.ensures)).0

@@ -1,6 +1,7 @@
 use Rattle.std.proofs.Common.{◌≡◌, ◌^◌, sym, ap, ◌∙◌, arith}
 use Rattle.rounding.specs.Cut.{cut}
-use Rattle.rounding.proofs.Drops.{powers, base_power, cut_all, cut_none}
+use Rattle.rounding.proofs.Cuts.{cut_none}
+use Rattle.rounding.proofs.Drops.{powers, base_power, cut_all}
 use Rattle.rounding.proofs.end.End.dropped.Goals as goal
 
 pub returns-then-k-ge32 : goal.returns-then-k-ge32
@@ -34,5 +35,5 @@ returns g c =
     let h2 = c.stage-n-4.ensures.few h4 in
     let h1 = c.stage-n-5.ensures.few h2 in
     let none : c.stage-n-5.result.1 ≡ 0 = omega (arith, h1) in
-    sym (cut_none g.R.Radix.lawful t c.stage-n-5.result.0) ∙ ap (λ x. cut t c.stage-n-5.result.0 (g.R.Radix.BASE ^ x)) (sym none)
+    sym (cut_none t c.stage-n-5.result.0 g.R.Radix.BASE) ∙ ap (λ x. cut t c.stage-n-5.result.0 (g.R.Radix.BASE ^ x)) (sym none)
     ∙ c.stage-n-5.ensures.same ∙ c.stage-n-4.ensures.same ∙ c.stage-n-3.ensures.same ∙ c.stage-n-2.ensures.same ∙ c.stage-n.ensures.same

@@ -1,12 +1,9 @@
-use Rattle.std.proofs.Common.{◌≡◌, ℕ, ◌-◌, ◌*◌, ◌^◌, ◌<◌, ◌≤◌, false, leb, Some, sym, refl, ap, ◌∙◌, subst, mul-le-mul_right, mul-le-mul_left, arith, rules, leb-false, leb-true}
-use Rattle.rounding.specs.Placed.{Stands}
+use Rattle.std.proofs.Common.{◌≡◌, ◌-◌, ◌*◌, ◌^◌, ◌<◌, ◌≤◌, false, leb, Some, sym, ap, ◌∙◌, mul-le-mul_right, mul-le-mul_left, arith, rules, leb-false, leb-true}
 use Rattle.rounding.specs.declared.radix.Radix.{Ghosts}
-use Rattle.rounding.specs.declared.rounding.Rounding.{Rounding}
 use Rattle.rounding.specs.declared.end.End.{End}
-use Rattle.rounding.specs.Cut.{cut, turned}
 use Rattle.rounding.specs.Rounded.{units}
 use Rattle.rounding.proofs.Rounds.{rounded_none}
-use Rattle.rounding.proofs.Sums.{not_below, level_difference, next_difference, far_digits, far_stands}
+use Rattle.rounding.proofs.Sums.{not_below, level_difference, next_difference, far_found}
 use Rattle.rounding.proofs.end.End.excess.Goals as goal
 
 pub returns-then-at_most : goal.returns-then-at_most
@@ -65,38 +62,18 @@ returns-then-gap-eq1 g c =
     let l = next c.args.self c.args.other c.if-at_most.ensures c.if-gap-eq1.true in
     c.exact-then-gap-eq1.ensures _ (rw c.BASE-base.ensures l.1)
 
--- the rest that is taken away, as the calls gave it
-less_is : (t t' : Rounding) (r n d : ℕ) → t' ≡ turned t → r ≡ cut t' n d → r ≡ cut (turned t) n d
-less_is t t' r n d e h = h ∙ ap (λ x. cut x n d) e
-
 pub overflow_sub-top-2 : goal.overflow_sub-top-2
 overflow_sub-top-2 g c =
-    let a = c.args.self in
-    let b = c.args.other in
-    let t = c.args.toward in
-    let e = less_is t _ _ _ _ c.opposite.ensures c.dropped-less.ensures in
-    let f = far_digits a b t (a.exponent - b.exponent) refl (omega (arith, c.if-gap-eq0.false, c.if-gap-eq1.false)) in
-    omega (arith, e, f.0, ap (λ x. a.digits * x) c.BASE-base.ensures)
+    (far_found c.args.self c.args.other c.args.toward _ _ _ c.BASE-base.ensures c.opposite.ensures c.dropped-less.ensures c.if-gap-eq0.false c.if-gap-eq1.false).under
 
 pub placed-requires : goal.placed-requires
 placed-requires g c =
-    let a = c.args.self in
-    let b = c.args.other in
-    let t = c.args.toward in
-    let e = less_is t _ _ _ _ c.opposite.ensures c.dropped-less.ensures in
-    let f = far_digits a b t (a.exponent - b.exponent) refl (omega (arith, c.if-gap-eq0.false, c.if-gap-eq1.false)) in
-    let most = mul-le-mul_right g.R.Radix.BASE (let m : a.digits ≤ g.R.Radix.FULL * g.R.Radix.BASE - 1 = omega (arith, a.few) in m) in
-    let full : g.R.Radix.FULL ≤ a.digits * g.R.Radix.BASE - c.dropped-less.result = omega (arith, e, f.1) in
-    let few : a.digits * g.R.Radix.BASE - c.dropped-less.result ≤ (g.R.Radix.FULL * g.R.Radix.BASE - 1) * g.R.Radix.BASE = omega arith in
+    let f = far_found c.args.self c.args.other c.args.toward _ _ _ c.BASE-base.ensures c.opposite.ensures c.dropped-less.ensures c.if-gap-eq0.false c.if-gap-eq1.false in
+    let full = f.full in
+    let few = f.few in
     search rules
 
 pub returns : goal.returns
 returns g c =
-    let a = c.args.self in
-    let b = c.args.other in
-    let t = c.args.toward in
-    let e = less_is t _ _ _ _ c.opposite.ensures c.dropped-less.ensures in
     c.placed.ensures _ 1
-    (rw c.BASE-base.ensures
-    (subst (λ (x : ℕ). Stands g.R.Radix.BASE g.R.Radix.FULL t (units a - units b) 1 (a.digits * g.R.Radix.BASE - x) (a.exponent - 1)) (sym e)
-    (far_stands a b t (a.exponent - b.exponent) refl (omega (arith, c.if-gap-eq0.false, c.if-gap-eq1.false)))))
+    (far_found c.args.self c.args.other c.args.toward _ _ _ c.BASE-base.ensures c.opposite.ensures c.dropped-less.ensures c.if-gap-eq0.false c.if-gap-eq1.false).stands

@@ -1,10 +1,7 @@
-use Rattle.std.proofs.Common.{ℕ, ◌+◌, ◌*◌, ◌^◌, ◌<◌, ◌≤◌, Some, sym, ap, ◌∙◌, subst, add_assoc, arith}
-use Rattle.rounding.specs.Cut.{cut}
-use Rattle.rounding.specs.Placed.{Scales}
-use Rattle.rounding.specs.Rounded.{units}
+use Rattle.std.proofs.Common.{Some, sym, ap, ◌∙◌, arith}
 use Rattle.rounding.proofs.Ends.{power_pos}
 use Rattle.rounding.proofs.Rounds.{rounded_none}
-use Rattle.rounding.proofs.Scalings.{product_scales, product_most, product_least, scales_fit, no_product, power_next}
+use Rattle.rounding.proofs.Scalings.{narrow_product, wide_product, scales_fit, no_product}
 use Rattle.rounding.proofs.end.End.mul.Goals as goal
 
 pub returns-then-product-eq0 : goal.returns-then-product-eq0
@@ -14,50 +11,26 @@ returns-then-product-eq0 g c =
 
 pub scaled-requires : goal.scaled-requires
 scaled-requires g c =
-    let r = g.R.Radix in
-    let z = r.lawful in
+    let z = g.R.Radix.lawful in
     let a = c.args.self in
     let b = c.args.other in
-    let t = c.args.toward in
-    let is = c.cut_off.ensures ∙ ap (cut t (a.digits * b.digits)) c.FULL-full.ensures in
-    let most : a.digits * b.digits < r.FULL * r.BASE * r.FULL = rw (sym c.limit-limit.ensures) (rw (sym c.FULL-full.ensures) c.if-product-limit.true) in
-    let f = scales_fit z t (product_scales z t a.digits b.digits a.exponent b.exponent r.PLACES r.FULL _ z.0.2 is (product_least a b c.if-product-eq0.false) most) in
+    let f = scales_fit z c.args.toward (narrow_product a b c.args.toward _ _ _ _ _ c.FULL-full.ensures c.limit-limit.ensures c.PLACES.ensures c.BIAS.ensures c.cut_off.ensures c.if-product-eq0.false c.if-product-limit.true) in
     record { full = f.0; few = f.1; low = omega (arith, a.low, b.low, z) }
 
 pub returns-then-product-limit : goal.returns-then-product-limit
 returns-then-product-limit g c =
-    let r = g.R.Radix in
-    let z = r.lawful in
-    let a = c.args.self in
-    let b = c.args.other in
-    let t = c.args.toward in
-    let is = c.cut_off.ensures ∙ ap (cut t (a.digits * b.digits)) c.FULL-full.ensures in
-    let most : a.digits * b.digits < r.FULL * r.BASE * r.FULL = rw (sym c.limit-limit.ensures) (rw (sym c.FULL-full.ensures) c.if-product-limit.true) in
-    c.scaled.ensures (units a * units b) (r.BASE ^ r.BIAS) (a.digits * b.digits) r.FULL
-    (rw c.PLACES.ensures (rw c.BIAS.ensures (product_scales z t a.digits b.digits a.exponent b.exponent r.PLACES r.FULL _ z.0.2 is (product_least a b c.if-product-eq0.false) most)))
+    c.scaled.ensures _ _ _ _
+    (narrow_product c.args.self c.args.other c.args.toward _ _ _ _ _ c.FULL-full.ensures c.limit-limit.ensures c.PLACES.ensures c.BIAS.ensures c.cut_off.ensures c.if-product-eq0.false c.if-product-limit.true)
 
 pub scaled-requires-2 : goal.scaled-requires-2
 scaled-requires-2 g c =
-    let r = g.R.Radix in
-    let z = r.lawful in
+    let z = g.R.Radix.lawful in
     let a = c.args.self in
     let b = c.args.other in
-    let t = c.args.toward in
-    let is = c.cut_off-2.ensures ∙ ap (cut t (a.digits * b.digits)) c.limit-limit.ensures in
-    let least : r.FULL * r.BASE * r.FULL ≤ a.digits * b.digits = rw (sym c.limit-limit.ensures) (rw (sym c.FULL-full.ensures) c.if-product-limit.false) in
-    let f = scales_fit z t (product_scales z t a.digits b.digits a.exponent b.exponent (r.PLACES + 1) (r.FULL * r.BASE) _ (power_next z) is (omega arith) (product_most a b)) in
+    let f = scales_fit z c.args.toward (wide_product a b c.args.toward _ _ _ _ _ c.FULL-full.ensures c.limit-limit.ensures c.PLACES.ensures c.BIAS-2.ensures c.cut_off-2.ensures (omega (arith, c.if-product-limit.false))) in
     record { full = f.0; few = f.1; low = omega (arith, a.low, b.low, z) }
 
 pub returns : goal.returns
 returns g c =
-    let r = g.R.Radix in
-    let z = r.lawful in
-    let a = c.args.self in
-    let b = c.args.other in
-    let t = c.args.toward in
-    let is = c.cut_off-2.ensures ∙ ap (cut t (a.digits * b.digits)) c.limit-limit.ensures in
-    let least : r.FULL * r.BASE * r.FULL ≤ a.digits * b.digits = rw (sym c.limit-limit.ensures) (rw (sym c.FULL-full.ensures) c.if-product-limit.false) in
-    let s = product_scales z t a.digits b.digits a.exponent b.exponent (r.PLACES + 1) (r.FULL * r.BASE) _ (power_next z) is (omega arith) (product_most a b) in
-    c.scaled-2.ensures (units a * units b) (r.BASE ^ r.BIAS) (a.digits * b.digits) (r.FULL * r.BASE)
-    (rw c.PLACES.ensures (rw c.BIAS-2.ensures
-    (subst (λ (x : ℕ). Scales r.BASE r.FULL t (units a * units b) (r.BASE ^ r.BIAS) (a.digits * b.digits) (r.FULL * r.BASE) c.cut_off-2.result x r.BIAS) (sym (add_assoc (a.exponent + b.exponent) r.PLACES 1)) s)))
+    c.scaled-2.ensures _ _ _ _
+    (wide_product c.args.self c.args.other c.args.toward _ _ _ _ _ c.FULL-full.ensures c.limit-limit.ensures c.PLACES.ensures c.BIAS-2.ensures c.cut_off-2.ensures (omega (arith, c.if-product-limit.false)))
