@@ -1,5 +1,5 @@
 -- What is known of the pressures.
-use Rattle.std.proofs.Common.{◌≡◌, ℕ, ◌+◌, ◌-◌, ◌*◌, ◌<◌, ◌≤◌, true, false, ◌∙◌, le_refl, mul-le-mul, arith, le-leb}
+use Rattle.std.proofs.Common.{◌≡◌, ℕ, ◌+◌, ◌-◌, ◌*◌, ◌<◌, ◌≤◌, true, false, Some, None, Option, ◌∙◌, le_refl, mul-le-mul, arith, le-leb}
 use borrow.Author.Tests.{lt-leb}
 use Rattle.fraction.specs.Fraction.{Fraction, whole, ◌⊕◌, ◌⊗◌, ◌⊘◌, ◌⊓◌}
 use Rattle.fraction.specs.Ratio.{at_most}
@@ -16,7 +16,7 @@ use Rattle.equations.proofs.Prism.{prism_same}
 use Rattle.equations.proofs.Forms.{all_regroup}
 use Rattle.quantities.specs.Known.{Known}
 use Rattle.quantities.specs.Quantities.{Diameter, Fill, Prism}
-use Rattle.quantities.specs.Formulas.{parts_of, water_pressure_of, live_length_of, wheel_width_of, truck_pressure_of}
+use Rattle.quantities.specs.Formulas.{parts_of, plus_of, water_pressure_of, live_length_of, wheel_width_of, truck_pressure_of}
 use Rattle.quantities.proofs.Known.{leaf, known, known_along, known_is}
 use Rattle.quantities.proofs.Quantities.{times_zero, zero_over}
 
@@ -105,8 +105,8 @@ module _ {E : Type 0} {m : Model E} (s : Sound m) (d : Design) where
   pub water_steps : {H Do : E} (factor depth e : E) → factor ≡ parts_of (computed m) d.site.water_factor 100 → depth ≡ parts_of (computed m) d.site.water 1000 → e ≡ water_pressure_of (computed m) factor depth H Do → Fill m d H → Diameter m d (outside_diameter d) Do → 1 ≤ d.site.water → Known m 20 1 100000 100 1 (water_pressure d) e
   water_steps factor depth e a b c H Do some = rw (c, a, b) (water_known H Do some)
 
-  pub paired_steps : {H Di : E} (one more width e : E) → one ≡ wheel_width_of (computed m) H Di → more ≡ m.from_whole 72 → width ≡ m.sum one more → e ≡ truck_pressure_of (computed m) (parts_of (computed m) (impact_units d) 9600000) (m.from_whole 32000) (live_length_of (computed m) H) width → Fill m d H → Diameter m d (inside_diameter d) Di → d.site.live_load ≡ Truck → d.site.fill ≤ 96000 → 5200000 ≤ wheel_units d → Known m 50 1 1000 100 1 (live_pressure d) e
-  paired_steps one more width e a b c i H Di truck le wide = rw (i, c, a, b) (paired_known H Di truck le wide)
+  pub paired_steps : {H Di : E} (one more width e : E) (under : ℕ × Option E) → one ≡ wheel_width_of (computed m) H Di → more ≡ m.from_whole 72 → under ≡ (32000, Some more) → width ≡ plus_of (computed m) one under.1 → e ≡ truck_pressure_of (computed m) (parts_of (computed m) (impact_units d) 9600000) (m.from_whole under.0) (live_length_of (computed m) H) width → Fill m d H → Diameter m d (inside_diameter d) Di → d.site.live_load ≡ Truck → d.site.fill ≤ 96000 → 5200000 ≤ wheel_units d → Known m 50 1 1000 100 1 (live_pressure d) e
+  paired_steps one more width e under a b l c i H Di truck le wide = rw (i, c, l, a, b) (paired_known H Di truck le wide)
 
-  pub single_steps : {H Di : E} (width e : E) → width ≡ wheel_width_of (computed m) H Di → e ≡ truck_pressure_of (computed m) (parts_of (computed m) (impact_units d) 9600000) (m.from_whole 16000) (live_length_of (computed m) H) width → Fill m d H → Diameter m d (inside_diameter d) Di → d.site.live_load ≡ Truck → d.site.fill ≤ 96000 → wheel_units d < 5200000 → Known m 50 1 1000 100 1 (live_pressure d) e
-  single_steps width e a b H Di truck le narrow = rw (b, a) (single_known H Di truck le narrow)
+  pub single_steps : {H Di : E} (one width e : E) (under : ℕ × Option E) → one ≡ wheel_width_of (computed m) H Di → under ≡ (16000, None) → width ≡ plus_of (computed m) one under.1 → e ≡ truck_pressure_of (computed m) (parts_of (computed m) (impact_units d) 9600000) (m.from_whole under.0) (live_length_of (computed m) H) width → Fill m d H → Diameter m d (inside_diameter d) Di → d.site.live_load ≡ Truck → d.site.fill ≤ 96000 → wheel_units d < 5200000 → Known m 50 1 1000 100 1 (live_pressure d) e
+  single_steps one width e under a l c i H Di truck le narrow = rw (i, c, l, a) (single_known H Di truck le narrow)

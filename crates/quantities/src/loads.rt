@@ -7,7 +7,7 @@ ghost use Rattle.quantities.specs.MeasuredCase.{design};
 ghost use Rattle.quantities.specs.Quantities.{Water, Live};
 
 use crate::case::Case;
-use crate::formulas::{live_length, parts, truck_pressure, water_pressure, wheel_width};
+use crate::formulas::{live_length, parts, plus, truck_pressure, water_pressure, wheel_width};
 use crate::measured::MeasuredCase;
 use enclosure::Arithmetic;
 use records::LiveLoad;
@@ -59,17 +59,13 @@ impl<'a, A: Arithmetic> MeasuredCase<'a, A> {
         let fill = self.given.site.fill;
         let deep = fill > 96_000;
         let paired = 115 * fill + 6 * self.given.section.inside >= 5_200_000;
-        match self.given.site.live_load {
-            LiveLoad::None => None,
-            LiveLoad::Truck if deep => None,
-            LiveLoad::Truck if paired => {
-                let width = wheel_width(measures.fill, measures.inside).add(A::whole(72));
-                Some(under_wheels(fill, 32_000, measures.fill, width))
-            }
-            LiveLoad::Truck => {
-                let width = wheel_width(measures.fill, measures.inside);
-                Some(under_wheels(fill, 16_000, measures.fill, width))
-            }
-        }
+        let (load, more) = match self.given.site.live_load {
+            LiveLoad::None => return None,
+            LiveLoad::Truck if deep => return None,
+            LiveLoad::Truck if paired => (32_000, Some(A::whole(72))),
+            LiveLoad::Truck => (16_000, None),
+        };
+        let width = plus(wheel_width(measures.fill, measures.inside), more);
+        Some(under_wheels(fill, load, measures.fill, width))
     }
 }

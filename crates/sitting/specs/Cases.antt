@@ -47,5 +47,5 @@ abbrev pub misfit : Register → CasePlaces → Option Refusal
 misfit g p = fields_refusal (standing g Section p.section) (standing g Site p.site)
 
 -- why there is no case at the places
-abbrev pub case_refusal : Register → CasePlaces → Option Refusal
-case_refusal g p = first (places_refusal p) (first (vacancy g p) (misfit g p))
+abbrev pub no_case : Register → CasePlaces → Option Refusal
+no_case g p = first (places_refusal p) (first (vacancy g p) (misfit g p))

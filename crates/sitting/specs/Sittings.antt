@@ -1,5 +1,6 @@
 -- What a sitting answers.
-use Rattle.std.specs.Prelude.{◌≡◌, ℕ, List, [], ◌∷◌, length, Some, Option}
+use Rattle.std.specs.Prelude.{◌≡◌, ℕ, List, length, Some, Option}
+use Rattle.std.specs.List.{AllZip}
 use Rattle.book.specs.Register.{Register}
 use Rattle.book.specs.Shelves.{register_of}
 use Rattle.calls.specs.declared.answer.Tallies.{Tallies}
@@ -14,7 +15,7 @@ use Rattle.judging.specs.Judged.{SheetJudged, Means, ReadOutOf}
 use Rattle.judging.specs.declared.claim.Claim.{Claim}
 use Rattle.judging.specs.declared.sheet.Sheet.{Sheet}
 use Rattle.records.specs.Cause.{Refusal, first}
-use Rattle.sitting.specs.Cases.{Stands, places_refusal, vacancy, misfit, case_refusal}
+use Rattle.sitting.specs.Cases.{Stands, places_refusal, vacancy, misfit, no_case}
 use Rattle.sitting.specs.Claims.{count_refusal, figure_refusal, claims_refusal, room_refusal}
 use Rattle.sitting.specs.declared.sitting.Sitting.{Sitting}
 
@@ -24,7 +25,7 @@ held s = register_of s.book
 
 -- why a figure is not read: no case, or no such figure
 abbrev pub reading_refusal : Register → Reading → Option Refusal
-reading_refusal g r = first (case_refusal g r.case) (figure_refusal 6 r.figure)
+reading_refusal g r = first (no_case g r.case) (figure_refusal 6 r.figure)
 
 -- why claims are not marked: places, the count of claims, the case, claim by claim, the tallies
 abbrev pub marking_refusal : Register → Tallies → CasePlaces → List Claim → Option Refusal
@@ -49,10 +50,8 @@ pub record FigureOf {E : Type 0} (m : Model E) (g : Register) (r : Reading) (bel
 
 -- each claim keeps its figure and its value, and the mark that it earns stands beside it
 abbrev pub AllEarned : {E : Type 0} → Model E → Design → List Claim → List Claim → Type 0
-AllEarned m d [] [] = Unit {0}
-AllEarned m d [] (y ∷ ys) = ⊥
-AllEarned m d (x ∷ xs) [] = ⊥
-AllEarned m d (x ∷ xs) (y ∷ ys) = ((y.figure ≡ x.figure) × (y.value ≡ x.value) × Earned m d x.figure x.value y.mark) × AllEarned m d xs ys
+AllEarned m d before after =
+    AllZip (λ x y. (y.figure ≡ x.figure) × (y.value ≡ x.value) × Earned m d x.figure x.value y.mark) before after
 
 -- claims on the case that stands at the places, before and after they are marked
 pub record ClaimsOf {E : Type 0} (m : Model E) (g : Register) (p : CasePlaces) (before after : List Claim) : Type 0 where

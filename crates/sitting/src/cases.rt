@@ -12,6 +12,7 @@ use quantities::Case;
 use records::{Cause, EmbedmentCurve, Fault, Section, ShapeCurve, Site, SupportGrid};
 
 /// Refuses places that are not within their counts.
+// The numbers are those of the places' fields in the call, here and in `gather`.
 pub(crate) fn check_places(case: CasePlaces) -> Result<(), Fault>
     ensures { refused result ≡ places_refusal case }
 {

@@ -47,6 +47,7 @@ fn check_claim(field: u64, claim: Claim) -> Result<(), Fault>
 }
 
 /// Refuses the first claim on no figure, or out of range.
+// By the index, and not `(6..).step_by(2).zip(claims)`: what a `step_by` has given asks for a longer proof than the loop's.
 #[tactic(auto, using(crate::proofs::Counting::claims_from))]
 pub(crate) fn check_claims(claims: &[Claim]) -> Result<(), Fault>
     requires { length claims.now ≤ 8 }

@@ -1,6 +1,6 @@
 ghost use Rattle.std.specs.Prelude.{◌≡◌, ◌+◌, ◌≤◌, length, IfOk, MatchResult, OnOk};
 ghost use Rattle.records.specs.Cause.{refused};
-ghost use Rattle.sitting.specs.Cases.{case_refusal};
+ghost use Rattle.sitting.specs.Cases.{no_case};
 ghost use Rattle.sitting.specs.Claims.{counted, no_tallies, room_refusal, total};
 
 use crate::cases::{check_places, gather};
@@ -49,7 +49,7 @@ impl Sitting {
 
     /// The sheet of the case at these places.
     pub fn judge<A: Arithmetic>(&self, case: CasePlaces) -> Result<Sheet, Fault>
-        ensures answer { refused result ≡ case_refusal (held self.now) case }
+        ensures answer { refused result ≡ no_case (held self.now) case }
         ensures sheet { IfOk result (λ s. SheetOf A.model (held self.now) case s) }
     {
         check_places(case)?;
