@@ -1,9 +1,8 @@
 -- A rounded quantity, as a fraction: on its side of the exact one, and within 1 / W of it.
 use Rattle.std.specs.Prelude.{◌≡◌, ℕ, ◌+◌, ◌*◌, ◌^◌, ◌<◌, ◌≤◌, max, Some, None, Option}
-use Rattle.std.proofs.Common.{ap, mul-le-mul_left, mul-le-mul_right, le_of_mul-le-mul_right, lt_of_not-le, arith}
+use Rattle.std.proofs.Common.{ap, mul-le-mul_left, mul-le-mul_right, le_of_mul-le-mul_right, arith}
 use Rattle.std.proofs.Math.Path.{subst}
-use Rattle.std.proofs.Math.Decide.{dec_le}
-use Rattle.std.proofs.Math.Logic.{dite}
+use Rattle.fraction.proofs.Lattice.{max_cases}
 use Rattle.fraction.specs.Fraction.{Fraction, ratio, whole, ◌⊕◌, ◌⊘◌, ◌≼◌}
 use Rattle.fraction.proofs.Order.{le_trans, one_max, plus_first}
 use Rattle.enclosure.specs.Model.{Below, Near, huge, tiny}
@@ -64,12 +63,6 @@ near_over W xn xd N u U g Q sn sd pu e h q =
     last : W * (g * u) * (sd * xd) ≤ W * N * (sd * xd) + sn * (u * U) * xd → g * (xd * (sd * W)) * u ≤ (xn * (sd * W) + sn * 1 * xd) * U * u
     last p = omega (arith, p, ap (λ v. v * (sd * W)) e)
 
-join_nat : (a b sd t : ℕ) → a * sd ≤ t → b * sd ≤ t → max a b * sd ≤ t
-join_nat a b sd t p q =
-    dite (dec_le a b)
-    (λ h. let e : max a b ≡ b = omega arith in rw e q)
-    (λ h. let e : max a b ≡ a = let l = lt_of_not-le h in omega arith in rw e p)
-
 module _ {R : Type 0} (g : Ghosts R) (x : Fraction) (N u : ℕ) (pu : 0 < u) (stands : x.num * (u * g.BASE ^ g.BIAS) ≡ N * x.den) where
   pub exact_below : value (or_zero (rounded {g = g} Down N u)) ≼ x
   exact_below = record { cross = under_nat x.num x.den N u (g.BASE ^ g.BIAS) _ pu stands (below g N u pu) }
@@ -92,7 +85,7 @@ module _ {R : Type 0} (g : Ghosts R) (x : Fraction) (N u : ℕ) (pu : 0 < u) (st
     wide : Q * s.den ≤ s.num * (u * g.BASE ^ g.BIAS)
     unfolding Q tiny ratio
     wide =
-        join_nat N (g.FULL * g.FULL * u) s.den _
+        max_cases N (g.FULL * g.FULL * u) s.den _
         (scale_nat x.num x.den N u (g.BASE ^ g.BIAS) s.num s.den x.pos stands scaled.cross)
         (tiny_nat g.FULL u (g.BASE ^ g.BIAS) (10 ^ 36) s.num s.den g.lawful.2.0 slight.cross)
 

@@ -116,6 +116,7 @@ impl<R: Radix> ReadOut for Enclosure<R> {
     }
 }
 
+// Ends have no Ord, and so no `min` and no `max`.
 fn smaller_end<R: Radix>(a: End<R>, b: End<R>) -> End<R>
     ensures { result ≡ smaller_end a b }
 {

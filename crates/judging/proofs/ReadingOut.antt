@@ -10,7 +10,6 @@ use Rattle.fraction.proofs.Sames as same
 use Rattle.enclosure.specs.Model.{Model, Sound}
 use Rattle.enclosure.specs.Readings.{readable, read_below, read_above}
 use Rattle.enclosure.proofs.Closeness.{fine_positive}
-use Rattle.lookups.proofs.Same.{same_by}
 use Rattle.judging.specs.Judged.{ReadOutOf}
 use Rattle.quantities.specs.Known.{Known}
 
@@ -73,7 +72,7 @@ narrow w k t l x pos h = record { cross = rw (order.one_max w pos) (omega (arith
 
 twos : (a : ℕ) (y : Fraction) → Same (whole a ⊕ whole 1 ⊕ y ⊕ whole 1) (whole a ⊕ y ⊕ whole 2)
 unfolding whole ◌⊕◌
-twos a y = same_by (omega arith)
+twos a y = same.by_parts (omega arith)
 
 gather : (l x : Fraction) → l ⊕ whole 302 ⊗ x ⊕ whole 302 ⊗ (x ⊗ whole 2) ≼ l ⊕ whole 10000 ⊗ x
 unfolding whole ◌⊕◌ ◌⊗◌

@@ -1,4 +1,3 @@
 pub mod Bilinear
 pub mod Cells
-pub mod Same
 pub mod Values
