@@ -1,8 +1,8 @@
 -- The claims of a marking: why they are refused, and how many have each mark.
-use Rattle.std.specs.Prelude.{ℕ, ◌+◌, Bool, false, cond, ◌&&◌, List, [], ◌∷◌, Some, None, Option, nat_le, count_by}
+use Rattle.std.specs.Prelude.{ℕ, ◌+◌, Bool, false, cond, ◌&&◌, List, [], ◌∷◌, Some, None, Option, ◌==◌, nat_le, count_by}
 use Rattle.calls.specs.declared.answer.Tallies.{Tallies}
+use Rattle.judging.specs.Answers.{mark_number}
 use Rattle.judging.specs.Claims.{in_range}
-use Rattle.judging.specs.contracts.answer.MarkPartialEq.TheImpl as mark
 use Rattle.judging.specs.declared.answer.Mark.{Mark}
 use Rattle.judging.specs.declared.answer.Mark.TheVariants.{Right, Wrong, Unmarked}
 use Rattle.judging.specs.declared.claim.Claim.{Claim}
@@ -37,10 +37,10 @@ room_refusal t n = cond (nat_le (total t + n) 60000) None (Some (refusal Tally 0
 abbrev pub no_tallies : Tallies
 no_tallies = record { right = 0; wrong = 0; unmarked = 0 }
 
--- whether this mark stands beside a claim, by the marks' own `==`
+-- whether this mark stands beside a claim
 abbrev pub tells : Mark → Option Mark → Bool
 tells k None = false
-tells k (Some m) = (mark.ghosts).eq m k
+tells k (Some m) = mark_number m == mark_number k
 
 -- how many claims have this mark beside them
 abbrev pub counts : Mark → List Claim → ℕ
