@@ -1,9 +1,11 @@
 -- What becomes of a list of claims.
-use Rattle.std.specs.Prelude.{◌≡◌, ℕ, ◌^◌, Bool, true, false, ◌&&◌, List, [], ◌∷◌, Some, Option, nat_le}
+use Rattle.std.specs.Prelude.{◌≡◌, ℕ, Bool, true, false, ◌&&◌, List, Some, Option, nat_le}
+use Rattle.std.specs.List.{AllZip}
 use Rattle.enclosure.specs.Model.{Model}
 use Rattle.equations.specs.Design.{Design}
 use Rattle.equations.specs.Figures.{figure_numbered, figure_millionths}
 use Rattle.equations.specs.declared.figure.Figure.{Figure}
+use Rattle.judging.specs.Claim.{claimable}
 use Rattle.judging.specs.Judged.{Marked}
 use Rattle.judging.specs.declared.answer.Mark.{Mark}
 use Rattle.judging.specs.declared.claim.Claim.{Claim}
@@ -12,9 +14,9 @@ use Rattle.judging.specs.declared.claim.Claim.{Claim}
 abbrev pub on_figure : Claim → Bool
 on_figure c = nat_le 1 c.figure && nat_le c.figure 8
 
--- from 1 to 10 ^ 13 millionths
+-- a value that can be claimed
 abbrev pub in_range : Claim → Bool
-in_range c = nat_le 1 c.value && nat_le c.value (10 ^ 13)
+in_range c = claimable c.value
 
 -- the mark that a claim of this value on the figure of this number earns, and that stands beside it
 pub record Earned {E : Type 0} (m : Model E) (d : Design) (number value : ℕ) (beside : Option Mark) : Type 0 where
@@ -33,7 +35,4 @@ pub record ClaimMarked {E : Type 0} (m : Model E) (d : Design) (before after : C
 
 -- each claim in its place
 abbrev pub ClaimsMarked : {E : Type 0} → Model E → Design → List Claim → List Claim → Type 0
-ClaimsMarked m d [] [] = Unit {0}
-ClaimsMarked m d [] (y ∷ ys) = ⊥
-ClaimsMarked m d (x ∷ xs) [] = ⊥
-ClaimsMarked m d (x ∷ xs) (y ∷ ys) = ClaimMarked m d x y × ClaimsMarked m d xs ys
+ClaimsMarked m d before after = AllZip (ClaimMarked m d) before after

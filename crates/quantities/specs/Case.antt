@@ -1,5 +1,5 @@
 -- A case: the design of five records that fit together, or why they do not.
-use Rattle.std.specs.Prelude.{◌+◌, ◌*◌, cond, Some, None, Option, nat_le, nat_lt}
+use Rattle.std.specs.Prelude.{ℕ, ◌+◌, ◌*◌, cond, Some, None, Option, nat_le, nat_lt}
 use Rattle.records.specs.Cause.{Refusal, refusal}
 use Rattle.records.specs.Lines.{EmbedmentCurve, ShapeCurve, embedment_points, shape_points, grid_widths, grid_ratios, grid_factors}
 use Rattle.records.specs.declared.fault.Cause.TheVariants.{Trench, Water}
@@ -25,8 +25,10 @@ records_of section embedment shape grid site =
 abbrev pub design_of : Case → Design
 design_of c = records_of c.section c.embedment.now c.shape.now c.grid.now c.site
 
--- a trench no wider than the pipe, water above the ground
+-- a trench Bd no wider than the pipe Do, or water Hw above the ground, 2 Hw > 2 H + Do
+abbrev pub fit_refusal : (Do H Bd Hw : ℕ) → Option Refusal
+fit_refusal Do H Bd Hw = cond (nat_le Bd Do) (Some (refusal Trench 0)) (cond (nat_lt (2 * H + Do) (2 * Hw)) (Some (refusal Water 0)) None)
+
+-- why a section and a site do not fit together
 abbrev pub case_refusal : Section → Site → Option Refusal
-case_refusal section site =
-    cond (nat_le site.trench section.outside) (Some (refusal Trench 0))
-    (cond (nat_lt (2 * site.fill + section.outside) (2 * site.water)) (Some (refusal Water 0)) None)
+case_refusal section site = fit_refusal section.outside site.fill site.trench site.water

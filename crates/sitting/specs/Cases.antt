@@ -1,14 +1,14 @@
 -- The case at five places of a register: its records, or why there is none.
-use Rattle.std.specs.Prelude.{◌≡◌, ℕ, ◌+◌, ◌*◌, cond, List, Some, None, Option, nat_le, nat_lt, slice_index}
+use Rattle.std.specs.Prelude.{◌≡◌, ℕ, List, Some, None, Option, slice_index}
 use Rattle.book.specs.Register.{Register, standing, places, place_refusal, empty_refusal}
 use Rattle.book.specs.declared.kind.Kind.TheVariants.{Section, Embedment, Shape, Grid, Site}
 use Rattle.calls.specs.declared.call.CasePlaces.{CasePlaces}
 use Rattle.equations.specs.Design.{Design}
-use Rattle.records.specs.Cause.{Refusal, refusal, first}
+use Rattle.quantities.specs.Case.{fit_refusal}
+use Rattle.records.specs.Cause.{Refusal, first}
 use Rattle.records.specs.Curve.{curve_line}
 use Rattle.records.specs.Grid.{lists_line}
 use Rattle.records.specs.Lines.{section_line, site_line}
-use Rattle.records.specs.declared.fault.Cause.TheVariants.{Trench, Water}
 
 -- the design's records stand at the places
 pub record Stands (g : Register) (p : CasePlaces) (d : Design) : Type 0 where
@@ -31,10 +31,6 @@ vacancy g p =
     first (empty_refusal 1 (standing g Section p.section)) (first (empty_refusal 2 (standing g Embedment p.embedment))
     (first (empty_refusal 3 (standing g Shape p.shape)) (first (empty_refusal 4 (standing g Grid p.grid))
     (empty_refusal 5 (standing g Site p.site)))))
-
--- a trench Bd no wider than the pipe Do, or water Hw above the ground, 2 Hw > 2 H + Do
-abbrev pub fit_refusal : (Do H Bd Hw : ℕ) → Option Refusal
-fit_refusal Do H Bd Hw = cond (nat_le Bd Do) (Some (refusal Trench 0)) (cond (nat_lt (2 * H + Do) (2 * Hw)) (Some (refusal Water 0)) None)
 
 -- the same of a section's fields, Do the third, and a site's, H, Bd and Hw the first three
 abbrev pub fields_refusal : Option (List ℕ) → Option (List ℕ) → Option Refusal
