@@ -2,6 +2,8 @@ ghost use Rattle.std.specs.Prelude.{◌≡◌, ◌*◌, ◌<◌, ◌≤◌};
 
 use fraction::Ratio;
 
+// Three types, and not one ratio: each has its unit in its name, and its bounds in its ghost fields.
+
 /// A pressure of `num / den` psi.
 #[derive(Clone, Copy)]
 pub struct Pressure {
