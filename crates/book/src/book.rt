@@ -62,6 +62,7 @@ impl Book {
         ensures law { OnOk result (Emptied (numbered kind) place (register_of self.old) (register_of self.new)) }
     {
         let kind = Kind::try_from(kind).map_err(|cause| Fault { cause, field: 1 })?;
+        // As in `enter`.
         match kind {
             Kind::Section => shelf::withdraw(&mut self.sections, place),
             Kind::Embedment => shelf::withdraw(&mut self.embedments, place),

@@ -92,12 +92,8 @@ fn answer(agrees: bool) -> &'static str {
     if agrees { "yes" } else { "no" }
 }
 
-fn print_bounds(
-    rt: &impl Print,
-    arithmetic: &str,
-    bounds: (Option<u64>, Option<u64>),
-) -> io::Result<()> {
-    let (Some(below), Some(above)) = bounds else {
+fn print_bounds(rt: &impl Print, arithmetic: &str, bounds: Option<(u64, u64)>) -> io::Result<()> {
+    let Some((below, above)) = bounds else {
         return println!(rt; "  {arithmetic}: past what can be read");
     };
     println!(rt; "  {arithmetic}: from {below} to {above} millionths")
@@ -107,8 +103,10 @@ fn print_pressure(rt: &impl Print, name: &str, x: Ratio, printed: u32) -> io::Re
     let Ratio { num, den } = x;
     println!(rt; "{name}, psi")?;
     println!(rt; "  exact: {num}/{den}")?;
-    print_bounds(rt, "binary", in_millionths::<Binary>(x))?;
-    print_bounds(rt, "decimal", in_millionths::<Decimal>(x))?;
+    let (below, above) = in_millionths::<Binary>(x);
+    print_bounds(rt, "binary", below.zip(above))?;
+    let (below, above) = in_millionths::<Decimal>(x);
+    print_bounds(rt, "decimal", below.zip(above))?;
     let whole = printed / 10;
     let tenths = printed % 10;
     let verdict = answer(is_within(x, printed));
@@ -126,8 +124,8 @@ fn print_figure(
     let binary = figure::<Binary>(case, wanted);
     let decimal = figure::<Decimal>(case, wanted);
     println!(rt; "{name}")?;
-    print_bounds(rt, "binary", (Some(binary.0), Some(binary.1)))?;
-    print_bounds(rt, "decimal", (Some(decimal.0), Some(decimal.1)))?;
+    print_bounds(rt, "binary", Some(binary))?;
+    print_bounds(rt, "decimal", Some(decimal))?;
     let whole = printed / 100;
     let hundredths = printed % 100;
     let millionths = 10_000 * printed as u64;

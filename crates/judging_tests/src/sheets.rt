@@ -218,24 +218,20 @@ fn sections(rt: HostRuntime) -> Result<(), Fail> {
 
 const SITE: [u64; 10] = [180_000, 78_000, 96_000, 1_200, 1_360, 130, 150, 1_500, 0, 1];
 
-const CLAIMS: [u64; 7] = [
-    10_700_000, 10_000_000, 10_559_185, 10_559_187, 10_772_502, 10_772_503, 0,
-];
-
-const MARKS: [Option<Mark>; 7] = [
-    Some(Mark::Right),
-    Some(Mark::Wrong),
-    Some(Mark::Wrong),
-    Some(Mark::Right),
-    Some(Mark::Right),
-    Some(Mark::Wrong),
-    None,
+const CLAIMS: [(u64, Option<Mark>); 7] = [
+    (10_700_000, Some(Mark::Right)),
+    (10_000_000, Some(Mark::Wrong)),
+    (10_559_185, Some(Mark::Wrong)),
+    (10_559_187, Some(Mark::Right)),
+    (10_772_502, Some(Mark::Right)),
+    (10_772_503, Some(Mark::Wrong)),
+    (0, None),
 ];
 
 // The prism pressure of the first sample case, and the marks of the claims on it.
 fn marked<A: ReadOut>(case: &Case) -> ((u64, u64), [Option<Mark>; 7]) {
     let read = figure::<A>(case, Figure::PrismPressure);
-    let marks = CLAIMS.map(|claim| {
+    let marks = CLAIMS.map(|(claim, _)| {
         Claimed::new(claim).map(|claim| mark::<A>(case, Figure::PrismPressure, claim))
     });
     (read, marks)
@@ -244,9 +240,10 @@ fn marked<A: ReadOut>(case: &Case) -> ((u64, u64), [Option<Mark>; 7]) {
 // The exact prism pressure is 10,664,777 and 7/9 millionths: 100/101 of it is 10,559,185.9.., 100/99 of it 10,772,502.8..
 #[test]
 fn claims_at_both_edges(rt: HostRuntime) -> Result<(), Fail> {
+    let expected = ((10_664_777, 10_664_778), CLAIMS.map(|(_, mark)| mark));
     let binary = on_case(&SECTION, &SITE, |case| marked::<Binary>(case))?;
     let decimal = on_case(&SECTION, &SITE, |case| marked::<Decimal>(case))?;
-    assert_eq!(rt; binary, ((10_664_777, 10_664_778), MARKS));
-    assert_eq!(rt; decimal, ((10_664_777, 10_664_778), MARKS));
+    assert_eq!(rt; binary, expected);
+    assert_eq!(rt; decimal, expected);
     Ok(())
 }

@@ -27,10 +27,7 @@ pub(crate) fn asked_figure(field: u64, number: u64) -> Result<Figure, Fault>
     ensures answer { refused result ≡ figure_refusal field number }
     ensures number { IfOk result (λ figure. figure_numbered number ≡ Some figure) }
 {
-    Figure::numbered(number).ok_or(Fault {
-        cause: Cause::Figure,
-        field,
-    })
+    Figure::try_from(number).map_err(|cause| Fault { cause, field })
 }
 
 // The figure of a claim is in this field, its value in the next.
