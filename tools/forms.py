@@ -53,13 +53,6 @@ def matching(pattern):
     return found
 
 
-def codes():
-    return matching(
-        r"\) -> u8\b|-> \(u8, u64\)|return \((0|99), \d\)|\b(left|right) \d \(|figure_number figure"
-        r"|\b(kind|figure|number): u64\b|== 1,$|-> \[u8; 8\]|^pub enum \w+"
-    )
-
-
 def twins():
     """Groups of functions whose bodies are the same but for names and numbers."""
     shapes = collections.defaultdict(list)
@@ -70,17 +63,6 @@ def twins():
         shape = " ".join(w if w in KEPT or not re.match(r"\w", w) else "_" for w in words)
         shapes[shape].append(f"{place} {name}")
     return [", ".join(group) for group in shapes.values() if len(group) > 1]
-
-
-def loops():
-    return matching(r"^\s*while\b|\bin [\w.() +-]*\.\.|(\+|-|\*)= |= \(\w+ \+ 1\)")
-
-
-def conversions():
-    return matching(
-        r"\bfn (number|numbered|from_number|of|at_most|compare|hundredths?|opposite|state|marked|told|as_ratio|letters?"
-        r"|answer|discard|stands|refusal|from|try_from|fmt|clone|eq|cmp|partial_cmp)\b"
-    )
 
 
 def repeated():
@@ -95,27 +77,22 @@ def repeated():
     return [f"{fact} in {len(names)}: {', '.join(names)}" for fact, names in where.items() if len(names) > 2]
 
 
-def buffers():
-    return matching(r"^\s*(pub(\(crate\))? )?\w+: \[[^\]]+; [^\]]+\]|^\s*(pub(\(crate\))? )?\w+: usize,$")
-
-
-def switches():
-    return matching(r"\bmatch (self|toward|kind|figure|rule)\b|: fn\(|\bdyn\b|Box<dyn")
-
-
-POINTS = {
-    "1 codes": codes,
-    "2 twins": twins,
-    "3 loops": loops,
-    "4 conversions": conversions,
-    "5 repeated": repeated,
-    "6 buffers": buffers,
-    "7 switches": switches,
+# What a line of a place looks like, for the points that a line shows.
+PATTERNS = {
+    "1 codes": r"\) -> u8\b|-> \(u8, u64\)|return \((0|99), \d\)|\b(left|right) \d \(|figure_number figure"
+    r"|\b(kind|figure|number): u64\b|== 1,$|-> \[u8; 8\]|^pub enum \w+",
+    "3 loops": r"^\s*while\b|\bin [\w.() +-]*\.\.|(\+|-|\*)= |= \(\w+ \+ 1\)",
+    "4 conversions": r"\bfn (number|numbered|from_number|of|at_most|compare|hundredths?|opposite|state|marked|told|as_ratio"
+    r"|letters?|answer|discard|stands|refusal|from|try_from|fmt|clone|eq|cmp|partial_cmp)\b",
+    "6 buffers": r"^\s*(pub(\(crate\))? )?\w+: \[[^\]]+; [^\]]+\]|^\s*(pub(\(crate\))? )?\w+: usize,$",
+    "7 switches": r"\bmatch (self|toward|kind|figure|rule)\b|: fn\(|\bdyn\b|Box<dyn",
 }
 
 if __name__ == "__main__":
-    for point, find in POINTS.items():
+    places = {point: matching(pattern) for point, pattern in PATTERNS.items()}
+    places["2 twins"] = twins()
+    places["5 repeated"] = repeated()
+    for point, found in sorted(places.items()):
         if len(sys.argv) == 1 or any(point.startswith(word) for word in sys.argv[1:]):
-            found = find()
             print(f"== {point}: {len(found)}")
             print("\n".join("  " + line for line in found))

@@ -32,8 +32,8 @@ impl Placed for Point {
 }
 
 // The first of the points that `at` does not lie past. A search from the first and no halving: an axis has at most
-// eight points, and halving would ask of the callers that they rise. That the denominator is a word is asked here and in
-// the two calls above: a type for it would be made of each operand for this alone.
+// eight points, and halving would ask of the callers that they rise. That the denominator is a word is asked here, in
+// `cell_of` and in `curve_value`: a type for it would be made of each operand for this alone.
 fn first_reached<P: Placed>(points: &[P], at: Ratio) -> Option<usize>
     requires { at.den < 2 ^ 64 }
     ensures { MatchOption result

