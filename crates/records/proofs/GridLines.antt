@@ -103,7 +103,7 @@ gridded g =
     record {
       wide = k.wide;
       deep = k.deep;
-      full = g.lists.full;
+      full = g.full;
       widths = each_between 100 1000 _ (grid_widths g) k.widths;
       ratios = each_between 5 5000 _ (grid_ratios g) k.ratios;
       factors = each_between 1 2000 _ (grid_factors g) k.factors;
