@@ -1,7 +1,10 @@
 -- Ratios that the code makes, and the turns of their comparison.
-use Rattle.std.proofs.Common.{◌≡◌, ℕ, zero, suc, ◌+◌, ◌*◌, ◌/◌, ◌%◌, ◌<◌, Bool, true, false, Some, nat_cmp, rules, sym, ap, ◌∙◌, mul-le-mul_right, mod-lt, mul-lt-mul_of_pos_right, arith}
+use Rattle.std.proofs.Common.{◌≡◌, ℕ, zero, suc, ◌+◌, ◌*◌, ◌/◌, ◌%◌, ◌<◌, ◌≤◌, ltb, leb, Bool, true, false, Some, nat_cmp, rules, sym, ap, ◌∙◌, mul-le-mul_right, mod-lt, mul-lt-mul_of_pos_right, lt_of_not-le, arith, le-ltb, lt-ltb, le-leb}
+use mathlib.Core.Logic.{dite}
+use native.Mathlib.Decide.{dec_le}
 use native.Mathlib.Nat.{div-add-mod}
 use native.Mathlib.Bridge.{le_prop}
+use borrow.Author.Tests.{lt-leb}
 use Rattle.std.specs.Cmp.{nat_cmp_is}
 use Rattle.std.specs.Ordering.{MatchOrdering, is_ne}
 use Rattle.std.specs.declared.cmp.Ordering.{Ordering}
@@ -39,16 +42,16 @@ module _ (a b c d : ℕ) (bp : 0 < b) (dp : 0 < d) where
   whole_c = div-add-mod c d
 
   -- the whole parts decide where they differ
-  less : a / b < c / d → a * d < c * b
+  pub less : a / b < c / d → a * d < c * b
   less l =
       omega (arith, ap (λ x. x * d) whole_a, ap (λ x. x * b) whole_c, mul-le-mul_right d (mod-lt a bp), mul-le-mul_right (b * d) l)
 
-  more : c / d < a / b → c * b < a * d
+  pub more : c / d < a / b → c * b < a * d
   more l =
       omega (arith, ap (λ x. x * d) whole_a, ap (λ x. x * b) whole_c, mul-lt-mul_of_pos_right (mod-lt c dp) bp, mul-le-mul_right (b * d) l)
 
   -- and where they do not, the remainders do
-  level : a / b ≡ c / d → a * d + c % d * b ≡ c * b + a % b * d
+  pub level : a / b ≡ c / d → a * d + c % d * b ≡ c * b + a % b * d
   level e = omega (arith, ap (λ x. x * d) whole_a, ap (λ x. x * b) whole_c, ap (λ x. x * (b * d)) e)
 
   -- as the code finds them
@@ -72,3 +75,17 @@ pub zero_cmp : (r o k l : ℕ) → 0 < k → 0 < l → r * o ≡ 0 → nat_cmp r
 zero_cmp zero o k l kp lp z = let e : 0 * k ≡ 0 * l = omega arith in rw e (sym (scaled 0 o l lp))
 zero_cmp (suc r) zero k l kp lp z = let e : 0 * l ≡ 0 * k = omega arith in rw e (sym (scaled (suc r) 0 k kp))
 zero_cmp (suc r) (suc o) k l kp lp z = absurd (omega (arith, z))
+
+-- so do the tests whether the one is at most the other
+pub same_test : (x y u v : ℕ) → x + v ≡ y + u → leb u v ≡ leb x y
+same_test x y u v e =
+    dite (dec_le u v)
+    (λ h. le-leb u v h ∙ sym (le-leb x y (omega arith)))
+    (λ h. let l : v < u = lt_of_not-le h in lt-leb u v l ∙ sym (lt-leb x y (omega arith)))
+
+-- and the whole parts decide such a test, where they differ
+pub apart_test : (q p x y : ℕ) → (q < p → x ≤ y) → (p < q → y < x) → (q ≡ p → ⊥) → ltb q p ≡ leb x y
+apart_test q p x y less more ne =
+    dite (dec_le (suc q) p)
+    (λ h. lt-ltb q p h ∙ sym (le-leb x y (less h)))
+    (λ h. let l : p < q = omega (arith, lt_of_not-le h) in le-ltb q p (omega arith) ∙ sym (lt-leb x y (more l)))

@@ -1,7 +1,7 @@
 -- Which claims can be marked, and one claim more in a loop that marks.
-use Rattle.std.proofs.Common.{◌≡◌, ℕ, ◌+◌, ◌<◌, Bool, true, false, cond, ◌&&◌, leb, List, [], ◌∷◌, ◌++◌, length, get_or, take, drop, set, Some, None, Option, sym, refl, ◌∙◌, inl, inr, arith}
-use Rattle.std.proofs.lemmas.List.{take_more, take_more_set, drop_more, drop-set-lt}
-use Rattle.std.proofs.lemmas.Bool.{cases_eq, ne_eqb, eq-eqb, and_from, and_right, true≢false}
+use Rattle.std.proofs.Common.{◌≡◌, ℕ, ◌+◌, ◌<◌, ◌≤◌, Bool, true, false, cond, ◌&&◌, leb, List, [], ◌∷◌, ◌++◌, length, get_or, take, drop, set, Some, None, Option, sym, refl, ◌∙◌, inl, inr, arith}
+use Rattle.std.proofs.lemmas.List.{take_more, take_more_set, drop_more, take_all, drop-set-lt}
+use Rattle.std.proofs.lemmas.Bool.{cases_eq, cases_Bool, ne_eqb, eq-eqb, leb-true, and_parts, and_from, and_left, and_right, true≢false}
 use Rattle.enclosure.specs.Model.{Model}
 use Rattle.equations.specs.Design.{Design}
 use Rattle.equations.specs.Figures.{figure_millionths, figure_number, figure_list, numbered_in, figure_numbered}
@@ -21,6 +21,34 @@ numbered_found n (g ∷ fs) f h =
       | inl e ↦ let k : Some f ≡ Some g = rw (eq-eqb n (figure_number g) e) at h in let i : f ≡ g = cc in rw i e
       | inr e ↦ numbered_found n fs f (rw (ne_eqb n (figure_number g) e) at h)
     ]
+
+abbrev Differs : ℕ → List Figure → Type 0
+Differs n [] = Unit {0}
+Differs n (g ∷ fs) = (n ≡ figure_number g → ⊥) × Differs n fs
+
+numbered_none : (n : ℕ) (fs : List Figure) → None ≡ numbered_in n fs → Differs n fs
+numbered_none n [] h = tt
+numbered_none n (g ∷ fs) h =
+    elim (cases_eq n (figure_number g)) [
+      | inl e ↦ absurd (let k : None ≡ Some g = rw (eq-eqb n (figure_number g) e) at h in true≢false (cc))
+      | inr e ↦ (e, numbered_none n fs (rw (ne_eqb n (figure_number g) e) at h))
+    ]
+
+-- the numbers that are no figure's
+pub no_figure : (n : ℕ) → None ≡ figure_numbered n → (leb 1 n && leb n 8) ≡ false
+no_figure n h =
+    elim (cases_Bool (leb 1 n && leb n 8)) [
+      | inl t ↦
+          let d = numbered_none n figure_list h in
+          let p = and_parts (leb 1 n) (leb n 8) t in
+          let a = leb-true 1 n p.0 in
+          let b = leb-true n 8 p.1 in
+          absurd (none_between n a b d.0 d.1.0 d.1.1.0 d.1.1.1.0 d.1.1.1.1.0 d.1.1.1.1.1.0 d.1.1.1.1.1.1.0 d.1.1.1.1.1.1.1.0)
+      | inr t ↦ t
+    ]
+  where
+    none_between : (n : ℕ) → 1 ≤ n → n ≤ 8 → (n ≡ 1 → ⊥) → (n ≡ 2 → ⊥) → (n ≡ 3 → ⊥) → (n ≡ 4 → ⊥) → (n ≡ 5 → ⊥) → (n ≡ 6 → ⊥) → (n ≡ 7 → ⊥) → (n ≡ 8 → ⊥) → ⊥
+    none_between n a b c d e f g h i j = omega (arith, a, b, c, d, e, f, g, h, i, j)
 
 within_eight : (f : Figure) → (leb 1 (figure_number f) && leb (figure_number f) 8) ≡ true
 within_eight PrismPressure = refl
@@ -72,6 +100,9 @@ module _ {E : Type 0} (m : Model E) (d : Design) where
   pub left_alone : (x : Claim) → (on_figure x && in_range x) ≡ false → ClaimMarked m d x x
   left_alone x h = record { figure = refl; value = refl; marked = λ t. absurd (true≢false (sym t ∙ h)); left = λ t. refl }
 
+  pub no_such_figure : (x : Claim) → None ≡ figure_numbered x.figure → ClaimMarked m d x x
+  no_such_figure x h = left_alone x (and_left (on_figure x) (in_range x) (no_figure x.figure h))
+
   pub no_such_claim : (x : Claim) → None ≡ claimed x.value → ClaimMarked m d x x
   no_such_claim x h = left_alone x (and_right (on_figure x) (in_range x) (claim_refused (in_range x) x.value h))
 
@@ -100,3 +131,8 @@ module _ {E : Type 0} (m : Model E) (d : Design) where
         front = rw (take_more_set news i y h, take_more olds i x h') (push (take i olds) (take i news) (get_or olds i x) y s.front (rw same at p));
         back = cc;
       }
+
+  pub at_end : (olds news : List Claim) (i : ℕ) → length news ≤ i → length news ≡ length olds → SoFar olds news i → ClaimsMarked m d olds news
+  at_end olds news i h l s =
+      let k : length olds ≤ i = omega arith in
+      rw (take_all i olds k, take_all i news h) at s.front

@@ -17,10 +17,10 @@ use Rattle.lookups.specs.Cell.{mix, Finds, Passed, Reached}
 use Rattle.lookups.specs.Line.{chord, line_from, line_at}
 use Rattle.lookups.specs.declared.cell.Cell.{Cell}
 
-same_to : {x y z : Fraction} → Same x y → y ≡ z → Same x z
+pub same_to : {x y z : Fraction} → Same x y → y ≡ z → Same x z
 same_to {x} h e = subst (λ (w : Fraction). Same x w) e h
 
-cond_same : (b c : Bool) {u v y z : Fraction} → b ≡ c → Same u y → Same v z → Same (cond b u v) (cond c y z)
+pub cond_same : (b c : Bool) {u v y z : Fraction} → b ≡ c → Same u y → Same v z → Same (cond b u v) (cond c y z)
 cond_same true c e h k = rw (← e) h
 cond_same false c e h k = rw (← e) k
 
@@ -67,25 +67,25 @@ chord_same x1 x2 y1 y2 x A B W a b w pos =
         omega arith
 
 -- a cell at one point has its value
-level_mix : (k : ℕ) (c : Cell) → c.first ≡ k → c.second ≡ k → c.after ≡ 1 → c.before ≡ 0 → (ys : List Fraction) → Same (mix c ys) (get_or ys k (whole 0))
+pub level_mix : (k : ℕ) (c : Cell) → c.first ≡ k → c.second ≡ k → c.after ≡ 1 → c.before ≡ 0 → (ys : List Fraction) → Same (mix c ys) (get_or ys k (whole 0))
 unfolding mix ◌⊕◌ ◌⊗◌ ◌⊘◌ whole
 level_mix k c f s a b ys = same.by_parts (rw (f, s, a, b) (omega arith))
 
 -- between x1 and x2, the products standing in variables
-cell_found : (x1 x2 i : ℕ) (x : Fraction) (low high : ℕ) (c : Cell) → low ≡ x1 * x.den → high ≡ x2 * x.den → low < x.num → x.num ≤ high → c.first ≡ i - 1 → c.second ≡ i → c.after ≡ high - x.num → c.before ≡ x.num - low → (ys : List Fraction) → Same (mix c ys) (chord x1 (get_or ys (i - 1) (whole 0)) x2 (get_or ys i (whole 0)) x)
+pub cell_found : (x1 x2 i : ℕ) (x : Fraction) (low high : ℕ) (c : Cell) → low ≡ x1 * x.den → high ≡ x2 * x.den → low < x.num → x.num ≤ high → c.first ≡ i - 1 → c.second ≡ i → c.after ≡ high - x.num → c.before ≡ x.num - low → (ys : List Fraction) → Same (mix c ys) (chord x1 (get_or ys (i - 1) (whole 0)) x2 (get_or ys i (whole 0)) x)
 unfolding mix
 cell_found x1 x2 i x low high c l u lt le f s a b ys =
     let w : x1 < x2 = lt_of_mul-lt-mul_right x.den (omega arith) in
     rw (f, s, a, b)
     (chord_same x1 x2 (get_or ys (i - 1) (whole 0)) (get_or ys i (whole 0)) x (high - x.num) (x.num - low) (x2 - x1) (omega arith) (omega arith) (omega arith) (omega arith))
 
-line_first : (xs : List ℕ) (ys : List Fraction) (x : Fraction) → 1 ≤ length xs → length ys ≡ length xs → x.num ≤ get_or xs 0 0 * x.den → get_or ys 0 (whole 0) ≡ line_at xs ys x
+pub line_first : (xs : List ℕ) (ys : List Fraction) (x : Fraction) → 1 ≤ length xs → length ys ≡ length xs → x.num ≤ get_or xs 0 0 * x.den → get_or ys 0 (whole 0) ≡ line_at xs ys x
 unfolding whole
 line_first [] ys x h e t = absurd (not-suc-le-zero h)
 line_first (a ∷ xs) [] x h e t = absurd (omega (arith, e))
 line_first (a ∷ xs) (b ∷ ys) x h e t = rw (le-leb (x.num * 1) (a * x.den) (omega arith))
 
-line_past_first : (xs : List ℕ) (ys : List Fraction) (x : Fraction) → 1 ≤ length xs → length ys ≡ length xs → get_or xs 0 0 * x.den < x.num → line_at xs ys x ≡ line_from (get_or xs 0 0) (get_or ys 0 (whole 0)) (drop 1 xs) (drop 1 ys) x
+pub line_past_first : (xs : List ℕ) (ys : List Fraction) (x : Fraction) → 1 ≤ length xs → length ys ≡ length xs → get_or xs 0 0 * x.den < x.num → line_at xs ys x ≡ line_from (get_or xs 0 0) (get_or ys 0 (whole 0)) (drop 1 xs) (drop 1 ys) x
 unfolding whole
 line_past_first [] ys x h e t = absurd (not-suc-le-zero h)
 line_past_first (a ∷ xs) [] x h e t = absurd (omega (arith, e))
@@ -96,16 +96,21 @@ module _ (xs : List ℕ) (ys : List Fraction) (x : Fraction) (a : ℕ) (b : Frac
   step : i < length xs → i < length ys → line_from a b (drop i xs) (drop i ys) x ≡ cond (at_most x (whole (get_or xs i 0))) (chord a b (get_or xs i 0) (get_or ys i (whole 0)) x) (line_from (get_or xs i 0) (get_or ys i (whole 0)) (drop (i + 1) xs) (drop (i + 1) ys) x)
   step h k = rw (add-one, drop-cons xs i 0, drop-cons ys i (whole 0))
 
-  line_in : i < length xs → i < length ys → all ≡ line_from a b (drop i xs) (drop i ys) x → x.num ≤ get_or xs i 0 * x.den → chord a b (get_or xs i 0) (get_or ys i (whole 0)) x ≡ all
+  pub line_in : i < length xs → i < length ys → all ≡ line_from a b (drop i xs) (drop i ys) x → x.num ≤ get_or xs i 0 * x.den → chord a b (get_or xs i 0) (get_or ys i (whole 0)) x ≡ all
   unfolding whole
   line_in h k e t = sym (e ∙ step h k ∙ rw (le-leb (x.num * 1) (get_or xs i 0 * x.den) (omega arith)))
 
-  line_on : i < length xs → i < length ys → all ≡ line_from a b (drop i xs) (drop i ys) x → get_or xs i 0 * x.den < x.num → all ≡ line_from (get_or xs i 0) (get_or ys i (whole 0)) (drop (i + 1) xs) (drop (i + 1) ys) x
+  pub line_on : i < length xs → i < length ys → all ≡ line_from a b (drop i xs) (drop i ys) x → get_or xs i 0 * x.den < x.num → all ≡ line_from (get_or xs i 0) (get_or ys i (whole 0)) (drop (i + 1) xs) (drop (i + 1) ys) x
   unfolding whole
   line_on h k e t = e ∙ step h k ∙ rw (lt-leb (x.num * 1) (get_or xs i 0 * x.den) (omega arith))
 
   line_end : length xs ≤ i → all ≡ line_from a b (drop i xs) (drop i ys) x → b ≡ all
   line_end h e = sym (e ∙ ap (λ (l : List ℕ). line_from a b l (drop i ys) x) (drop_of_length-le xs h))
+
+pub line_last : (xs : List ℕ) (ys : List Fraction) (x : Fraction) (i : ℕ) (all : Fraction) → length xs ≤ i → i ≤ length xs → all ≡ line_from (get_or xs (i - 1) 0) (get_or ys (i - 1) (whole 0)) (drop i xs) (drop i ys) x → get_or ys (length xs - 1) (whole 0) ≡ all
+line_last xs ys x i all h k e =
+    let r : length xs - 1 ≡ i - 1 = omega arith in
+    ap (λ (n : ℕ). get_or ys n (whole 0)) r ∙ line_end xs ys x (get_or xs (i - 1) 0) (get_or ys (i - 1) (whole 0)) i all h e
 
 -- x lies past the points up to the k-th, and what follows is the line from there
 past : (xs : List ℕ) (ys : List Fraction) (x : Fraction) → length ys ≡ length xs → (k : ℕ) → k < length xs → ((j : ℕ) → j ≤ k → get_or xs j 0 * x.den < x.num) → line_at xs ys x ≡ line_from (get_or xs k 0) (get_or ys k (whole 0)) (drop (k + 1) xs) (drop (k + 1) ys) x
@@ -113,6 +118,12 @@ past xs ys x n zero h a = line_past_first xs ys x h n (a 0 (omega arith))
 past xs ys x n (suc k) h a =
     line_on xs ys x (get_or xs k 0) (get_or ys k (whole 0)) (suc k) (line_at xs ys x) h (omega (arith, n, h))
     (rw add-one at (past xs ys x n k (omega (arith, h)) (λ j l. a j (omega (arith, l))))) (a (suc k) (omega arith))
+
+-- what is read at a place of the points
+pub map_at : {A : Type 0} (f : A → ℕ) (xs : List A) (i : ℕ) (x : A) (n : ℕ) → i < length xs → x ≡ get_or xs i x → n ≡ f x → n ≡ get_or (map f xs) i 0
+map_at f [] i x n h e k = absurd (not-suc-le-zero h)
+map_at f (y ∷ xs) zero x n h e k = k ∙ ap f e
+map_at f (y ∷ xs) (suc i) x n h e k = map_at f xs i x n (le_of_suc-le-suc h) e k
 
 -- what holds of the place of the point k, holds of the k-th place
 placed : {A : Type 0} (spot : A → ℕ) (P : ℕ → Type 0) (ps : List A) (k : ℕ) → k < length ps → ((d : A) → P (spot (get_or ps k d))) → P (get_or (map spot ps) k 0)

@@ -37,7 +37,7 @@ pub record Fitting (y z A B : ℕ) : Type 0 where
   pub whole : A + B ≤ 100000 * 2 ^ 64
   pub sum : y * A + z * B ≤ 50000 * (A + B)
 
-fitting : (y z A B x d : ℕ) → y ≤ 50000 → z ≤ 50000 → A + B ≤ max 1 (x * d) → x ≤ 100000 → d < 2 ^ 64 → Fitting y z A B
+pub fitting : (y z A B x d : ℕ) → y ≤ 50000 → z ≤ 50000 → A + B ≤ max 1 (x * d) → x ≤ 100000 → d < 2 ^ 64 → Fitting y z A B
 fitting y z A B x d hy hz h l m =
     record { whole = weights_fit (A + B) d (weights_most 100000 x (A + B) d h l) m; sum = mean_most 50000 y z A B hy hz }
 

@@ -1,5 +1,5 @@
 -- What a test between neighbours has answered.
-use Rattle.std.proofs.Common.{◌≡◌, ℕ, zero, suc, ◌+◌, ◌<◌, Bool, true, false, ◌&&◌, List, [], ◌∷◌, length, get_or, refl, arith}
+use Rattle.std.proofs.Common.{◌≡◌, ℕ, zero, suc, ◌+◌, ◌<◌, ◌≤◌, Bool, true, false, ◌&&◌, List, [], ◌∷◌, length, get_or, drop, refl, not-suc-le-zero, arith}
 use Rattle.std.specs.List.{IsAllAdjacentAnswer}
 use Rattle.records.specs.Curve.{linked, chained}
 
@@ -23,6 +23,11 @@ module _ {X : Type 0} (test : X → X → Bool) where
       both_false : (a b : Bool) → false ≡ b → false ≡ (a && b)
       both_false true b e = e
       both_false false b e = refl
+
+  -- of one item or more, the test along all is the test along the first and the rest
+  pub chained_first : (d : X) (xs : List X) → 1 ≤ length xs → chained test xs ≡ linked test (get_or xs 0 d) (drop 1 xs)
+  chained_first d [] h = absurd (not-suc-le-zero h)
+  chained_first d (x ∷ xs) h = refl
 
   -- what `is_sorted_by` answers, given the test that its closure computes
   pub chained_is : (xs : List X) (r : Bool) → IsAllAdjacentAnswer (λ x y b. b ≡ test x y) xs r → r ≡ chained test xs

@@ -1,6 +1,6 @@
 -- The ways through a curve's line, and what a lawful curve keeps.
-use Rattle.std.proofs.Common.{◌≡◌, ℕ, zero, suc, ◌+◌, ◌-◌, ◌*◌, ◌<◌, ◌≤◌, true, T, List, [], ◌∷◌, length, get_or, take, drop, Some, None, Ok, Option, sym, refl, ap, subst, le_of_suc-le-suc, not-suc-le-zero, arith, length-drop, take_all, eqb-true}
-use Rattle.records.specs.declared.fault.Cause.TheVariants.{Range}
+use Rattle.std.proofs.Common.{◌≡◌, ℕ, zero, suc, ◌+◌, ◌-◌, ◌*◌, ◌<◌, ◌≤◌, true, false, T, List, [], ◌∷◌, length, get_or, take, drop, Some, None, Ok, Err, Option, sym, refl, ap, subst, le_of_suc-le-suc, not-suc-le-zero, arith, length-drop, take_all, eqb-true}
+use Rattle.records.specs.declared.fault.Cause.TheVariants.{Range, Order, Steep}
 use Rattle.records.specs.declared.fields.Allowed.{Allowed}
 use Rattle.records.specs.declared.fields.Allowed.TheVariants.{Between}
 use Rattle.records.specs.declared.point.CurveRules.{CurveRules}
@@ -28,8 +28,20 @@ line_back (n ∷ ns) h =
     let e : length ns ≡ 2 * n = omega (arith, eqb-true (length (n ∷ ns)) (1 + 2 * n) (sym h)) in
     rw (flat_paired n ns e, paired_length n ns (omega arith) (omega arith))
 
+-- why a complete line of a lawful count is refused
+module _ (r : CurveRules) (ns : List ℕ) (complete : true ≡ curve_complete ns) (count : None ≡ outside (Between 1 8 ∷ []) 2 (take 1 ns)) where
+  pub field_refused : (e : Refusal) → Some e ≡ outside (ranges r) 3 (rest ns) → Err e ≡ unless (curve_refusal r ns) ns
+  field_refused e h = let k = rw (rest_is ns) at h in rw (← complete, ← count, ← k)
+
+  module _ (fields : None ≡ outside (ranges r) 3 (rest ns)) where
+    pub order_broken : false ≡ chained (holds r.trend) (paired (rest ns)) → Err (refusal Order 0) ≡ unless (curve_refusal r ns) ns
+    order_broken h = let k = rw (rest_is ns) at h in let f = rw (rest_is ns) at fields in rw (← complete, ← count, ← f, ← k)
+
+    pub steep : true ≡ chained (holds r.trend) (paired (rest ns)) → false ≡ chained (holds Gentle) (paired (rest ns)) → Err (refusal Steep 0) ≡ unless (curve_refusal r ns) ns
+    steep h g = let k = rw (rest_is ns) at h in let l = rw (rest_is ns) at g in let f = rw (rest_is ns) at fields in rw (← complete, ← count, ← f, ← k, ← l)
+
 -- what is answered for a line is lawful
-line_lawful : (r : CurveRules) (ps : List Point) (ns : List ℕ) → Ok (curve_line ps) ≡ unless (curve_refusal r ns) ns → T (lawful_points r ps)
+pub line_lawful : (r : CurveRules) (ps : List Point) (ns : List ℕ) → Ok (curve_line ps) ≡ unless (curve_refusal r ns) ns → T (lawful_points r ps)
 line_lawful r ps ns e = by (curve_refusal r ns) refl e
   where
     by : (o : Option Refusal) → curve_refusal r ns ≡ o → Ok (curve_line ps) ≡ unless o ns → T (lawful_points r ps)

@@ -1,5 +1,5 @@
 -- The ways through a grid's line, and what a lawful grid keeps.
-use Rattle.std.proofs.Common.{◌≡◌, ℕ, ◌+◌, ◌-◌, ◌*◌, ◌<◌, ◌≤◌, true, List, [], ◌∷◌, ◌++◌, length, get_or, take, drop, Some, None, Ok, Err, sym, refl, ap, ◌∙◌, arith, lit<, length-drop, take-append-drop, length-take, take_all, drop-drop, eqb-true}
+use Rattle.std.proofs.Common.{◌≡◌, ℕ, ◌+◌, ◌-◌, ◌*◌, ◌<◌, ◌≤◌, true, List, [], ◌∷◌, ◌++◌, length, get_or, take, drop, Some, None, Ok, Err, sym, refl, ap, ◌∙◌, mul-le-mul, arith, lit<, length-drop, take-append-drop, length-take, take_all, drop-drop, eqb-true}
 use Rattle.records.specs.declared.grid.SupportGrid.{SupportGrid}
 use Rattle.records.specs.declared.fields.Allowed.TheVariants.{Between}
 use Rattle.records.specs.Cause.{Refusal, unless}
@@ -30,6 +30,10 @@ lists_kept ws ms fs e =
       ratios = c.0;
       factors = d.0;
     }
+
+-- a full grid has few factors
+pub few_factors : (w m n : ℕ) → w ≤ 6 → m ≤ 6 → n ≡ m * w → n ≤ 36
+few_factors w m n h k e = omega (arith, mul-le-mul k h)
 
 two_counts : (ns : List ℕ) → 2 ≤ length ns → take 2 ns ≡ get_or ns 0 0 ∷ get_or ns 1 0 ∷ []
 two_counts [] h = absurd (omega (arith, h))
@@ -64,7 +68,7 @@ module _ (ns rest ws ms fs : List ℕ) (complete : true ≡ grid_complete ns)
   factors_is : fs ≡ drop (2 + wide + deep) ns
   factors_is = f ∙ ap (drop deep) rest_is ∙ drop-drop deep (2 + wide) ns
 
-  counts_are : take 2 ns ≡ length ws ∷ length ms ∷ []
+  pub counts_are : take 2 ns ≡ length ws ∷ length ms ∷ []
   counts_are =
       let a : length ws ≡ wide = rw widths_is (simp (length-take, length-drop) (omega (arith, asked))) in
       let b : length ms ≡ deep = rw ratios_is (simp (length-take, length-drop) (omega (arith, asked))) in
@@ -99,7 +103,7 @@ gridded g =
     record {
       wide = k.wide;
       deep = k.deep;
-      full = g.lists.full;
+      full = g.full;
       widths = each_between 100 1000 _ (grid_widths g) k.widths;
       ratios = each_between 5 5000 _ (grid_ratios g) k.ratios;
       factors = each_between 1 2000 _ (grid_factors g) k.factors;

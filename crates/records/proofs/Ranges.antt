@@ -41,12 +41,12 @@ keeps (Between a b) n e = between a b n e
 keeps (Among a b c) n e = e
 
 -- which of n the i-th number after the k-th is held against
-abbrev turned : ℕ → ℕ → ℕ → ℕ
+abbrev pub turned : ℕ → ℕ → ℕ → ℕ
 turned n k zero = k
 turned n k (suc i) = turned n ((k + 1) % n) i
 
 -- where nothing is outside, each number is allowed
-allowed_at : (all : List Allowed) (k f : ℕ) (ns : List ℕ) → None ≡ outside_from all k f ns → (i : ℕ) → i < length ns → true ≡ allows (get_or all (turned (length all) k i) (Between 0 0)) (get_or ns i 0)
+pub allowed_at : (all : List Allowed) (k f : ℕ) (ns : List ℕ) → None ≡ outside_from all k f ns → (i : ℕ) → i < length ns → true ≡ allows (get_or all (turned (length all) k i) (Between 0 0)) (get_or ns i 0)
 allowed_at all k f [] e i h = absurd (not-suc-le-zero h)
 allowed_at all k f (n ∷ ns) e zero h = (cond_none _ _ _ e).0
 allowed_at all k f (n ∷ ns) e (suc i) h = allowed_at all ((k + 1) % length all) (f + 1) ns (cond_none _ _ _ e).1 i (le_of_suc-le-suc h)

@@ -3,14 +3,15 @@ use Rattle.std.proofs.Common.{◌≡◌, ℕ, ◌<◌, ◌≤◌, Bool, true, fa
 use borrow.Author.Tests.{eqb-false}
 use Rattle.std.specs.Bool.{MatchBool}
 use Rattle.std.proofs.lemmas.Bool.Decides.{nat_tests}
+use Rattle.records.specs.declared.fault.Cause.TheVariants.{Writing}
 use Rattle.records.specs.declared.fields.Allowed.TheVariants.{Among}
 use Rattle.records.specs.declared.site.LiveLoad.{LiveLoad}
 use Rattle.records.specs.declared.site.LiveLoad.TheVariants.{None as NoLoad, Truck}
-use Rattle.records.specs.Cause.{unless}
+use Rattle.records.specs.Cause.{refusal, unless}
 use Rattle.records.specs.Fields.{allows, outside}
 use Rattle.records.specs.Lines.{walls_number, live_load_number}
 use Rattle.records.specs.Site.{site_ranges, site_refusal}
-use Rattle.records.proofs.Ranges.{spelled, each_keeps}
+use Rattle.records.proofs.Ranges.{spelled, cond_none, each_keeps}
 
 three : (n : ℕ) → true ≡ allows (Among 115 135 150) n → (115 ≤ n) × (n ≤ 150) × (true ≡ allows (Among 115 135 150) n)
 three n e = (grind (arith, nat_tests), grind (arith, nat_tests), e)
@@ -25,6 +26,8 @@ pub record SiteKept (ns : List ℕ) : Type 0 where
   pub factor : (100 ≤ get_or ns 5 0) × (get_or ns 5 0 ≤ 130)
   pub installation : (115 ≤ get_or ns 6 0) × (get_or ns 6 0 ≤ 150) × (true ≡ allows (Among 115 135 150) (get_or ns 6 0))
   pub native : (50 ≤ get_or ns 7 0) × (get_or ns 7 0 ≤ 50000)
+  pub walls : get_or ns 8 0 ≤ 1
+  pub live : get_or ns 9 0 ≤ 1
 
 pub site_kept : (ns : List ℕ) → 10 ≤ length ns → length ns < 11 → None ≡ outside site_ranges 2 ns → SiteKept ns
 site_kept ns a b e =
@@ -38,6 +41,8 @@ site_kept ns a b e =
       factor = k 5 (lit< tt);
       installation = three _ (k 6 (lit< tt));
       native = k 7 (lit< tt);
+      walls = (k 8 (lit< tt)).1;
+      live = (k 9 (lit< tt)).1;
     }
 
 walls_back : (n : ℕ) → n ≤ 1 → walls_number (eqb n 1) ≡ n
@@ -59,3 +64,7 @@ site_made ns load a b e t =
     let l : length ns ≡ 10 = omega (arith, a, b) in
     let k = each_keeps site_ranges 2 ns l e in
     rw (l, ← e, live_back load _ (k 9 (lit< tt)).1 t, walls_back (get_or ns 8 0) (k 8 (lit< tt)).1) (ap (λ (m : List ℕ). Ok m) (sym (spelled 0 10 ns l)))
+
+-- a line that is not refused has ten fields
+pub ten : (ns : List ℕ) → None ≡ site_refusal ns → length ns ≡ 10
+ten ns found = eqb-true (length ns) 10 (sym (cond_none (eqb (length ns) 10) _ (refusal Writing 0) found).0)

@@ -67,15 +67,15 @@ shape_line c = line_of c
 
 -- the width ratios, hundredths
 abbrev pub grid_widths : SupportGrid → List ℕ
-grid_widths g = in_use g.lists.widths
+grid_widths g = in_use g.widths
 
 -- the modulus ratios, thousandths
 abbrev pub grid_ratios : SupportGrid → List ℕ
-grid_ratios g = in_use g.lists.ratios
+grid_ratios g = in_use g.ratios
 
 -- the factors, thousandths, a row for each modulus ratio
 abbrev pub grid_factors : SupportGrid → List ℕ
-grid_factors g = in_use g.lists.factors
+grid_factors g = in_use g.factors
 
 -- two counts, widths, modulus ratios and factors
 abbrev pub grid_line : SupportGrid → List ℕ

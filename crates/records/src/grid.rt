@@ -1,5 +1,6 @@
 ghost use Rattle.std.specs.Prelude.{◌≡◌, ◌*◌, ◌<◌, T, length};
 ghost use Rattle.records.specs.Cause.{refused, answered, unless};
+ghost use Rattle.records.specs.Curve.{holds, chained};
 ghost use Rattle.records.specs.Grid.{rising, column, columns_hold, values_refusal, lawful_lists, grid_complete, grid_refusal};
 ghost use Rattle.records.specs.ShortList.{in_use};
 
@@ -8,9 +9,18 @@ use crate::fields::{Allowed, in_ranges};
 use crate::point::{Point, Rule};
 use crate::short_list::ShortList;
 
-/// The lists of a support grid.
+/// The lists of a grid's line, lent to be tested.
 #[derive(Clone, Copy)]
-struct Lists {
+struct Lists<'a> {
+    widths: &'a [u64],
+    ratios: &'a [u64],
+    factors: &'a [u64],
+    ghost full: { length factors.now ≡ length ratios.now * length widths.now },
+}
+
+/// How far the native soil and the trench support the embedment.
+#[derive(Clone, Copy)]
+pub struct SupportGrid {
     /// Trench width over outside diameter, hundredths.
     widths: ShortList<u64, 6>,
     /// Native over embedment modulus, thousandths.
@@ -18,13 +28,7 @@ struct Lists {
     /// Support factors, thousandths: a row of the widths for each modulus ratio.
     factors: ShortList<u64, 36>,
     ghost full: { length (in_use factors) ≡ length (in_use ratios) * length (in_use widths) },
-}
-
-/// How far the native soil and the trench support the embedment.
-#[derive(Clone, Copy)]
-pub struct SupportGrid {
-    lists: Lists,
-    ghost lawful: { T (lawful_lists (in_use lists.widths) (in_use lists.ratios) (in_use lists.factors)) },
+    ghost lawful: { T (lawful_lists (in_use widths) (in_use ratios) (in_use factors)) },
 }
 
 fn is_rising(numbers: &[u64]) -> bool
@@ -33,51 +37,46 @@ fn is_rising(numbers: &[u64]) -> bool
     numbers.is_sorted_by(|n, next| n < next)
 }
 
-impl Lists {
-    // The factors over the modulus ratios at one of the widths.
-    fn column(&self, place: usize) -> ShortList<Point, 6>
-        requires { place < length (in_use self.now.widths) }
-        ensures { in_use result ≡ column (length (in_use self.now.widths)) place (in_use self.now.ratios) (in_use self.now.factors) }
+impl<'a> Lists<'a> {
+    // Whether a rule holds along the modulus ratio at one of the widths.
+    fn column_holds(&self, rule: Rule, place: usize) -> bool
+        requires { place < length self.now.widths.now }
+        ensures { result ≡ chained (holds rule) (column (length self.now.widths.now) place self.now.ratios.now self.now.factors.now) }
     {
-        let mut points = ShortList::new();
-        let rows = self
-            .factors
-            .as_slice()
-            .chunks_exact(self.widths.as_slice().len());
-        for (ratio, row) in self.ratios.as_slice().iter().zip(rows) {
-            points.push(Point {
+        let mut above: Option<Point> = None;
+        let mut rows = self.factors;
+        for ratio in self.ratios {
+            let (row, below) = rows.split_at(self.widths.len());
+            let point = Point {
                 x: *ratio,
                 y: row[place],
-            });
+            };
+            if above.is_some_and(|above| !rule.holds(above, point)) {
+                return false;
+            }
+            above = Some(point);
+            rows = below;
         }
-        points
+        true
     }
 
     // Whether a rule holds along the modulus ratio at every width.
     fn columns_hold(&self, rule: Rule) -> bool
-        ensures { result ≡ columns_hold rule (in_use self.now.widths) (in_use self.now.ratios) (in_use self.now.factors) }
+        ensures { result ≡ columns_hold rule self.now.widths.now self.now.ratios.now self.now.factors.now }
     {
-        (0..self.widths.as_slice().len()).all(|place| rule.holds_along(
-            self.column(place).as_slice(),
-        ))
+        (0..self.widths.len()).all(|place| self.column_holds(rule, place))
     }
 
     // Why the values make no grid.
     fn check(&self) -> Result<(), Fault>
-        ensures { refused result ≡ values_refusal (in_use self.now.widths) (in_use self.now.ratios) (in_use self.now.factors) }
+        ensures { refused result ≡ values_refusal self.now.widths.now self.now.ratios.now self.now.factors.now }
     {
-        let widths = self.widths.as_slice();
-        let ratios = self.ratios.as_slice();
-        let ratio_field = 4 + widths.len() as u64;
-        let factor_field = ratio_field + ratios.len() as u64;
-        in_ranges(&[Allowed::Between(100, 1_000)], 4, widths)?;
-        in_ranges(&[Allowed::Between(5, 5_000)], ratio_field, ratios)?;
-        in_ranges(
-            &[Allowed::Between(1, 2_000)],
-            factor_field,
-            self.factors.as_slice(),
-        )?;
-        if !is_rising(widths) || !self.columns_hold(Rule::NeverFalling) {
+        let ratio_field = 4 + self.widths.len() as u64;
+        let factor_field = ratio_field + self.ratios.len() as u64;
+        in_ranges(&[Allowed::Between(100, 1_000)], 4, self.widths)?;
+        in_ranges(&[Allowed::Between(5, 5_000)], ratio_field, self.ratios)?;
+        in_ranges(&[Allowed::Between(1, 2_000)], factor_field, self.factors)?;
+        if !is_rising(self.widths) || !self.columns_hold(Rule::NeverFalling) {
             return Err(Fault::DISORDERED);
         }
         if !self.columns_hold(Rule::Gentle) {
@@ -115,32 +114,36 @@ impl SupportGrid {
         let (widths, rest) = fields[2..].split_at(fields[0] as usize);
         let (ratios, factors) = rest.split_at(fields[1] as usize);
         let lists = Lists {
+            widths,
+            ratios,
+            factors,
+        };
+        lists.check()?;
+        Ok(SupportGrid {
             widths: ShortList::from_slice(widths),
             ratios: ShortList::from_slice(ratios),
             factors: ShortList::from_slice(factors),
-        };
-        lists.check()?;
-        Ok(SupportGrid { lists })
+        })
     }
 
     /// The width ratios in use.
     pub fn widths(&self) -> &[u64]
         ensures { result.now ≡ grid_widths self.now }
     {
-        self.lists.widths.as_slice()
+        self.widths.as_slice()
     }
 
     /// The modulus ratios in use.
     pub fn ratios(&self) -> &[u64]
         ensures { result.now ≡ grid_ratios self.now }
     {
-        self.lists.ratios.as_slice()
+        self.ratios.as_slice()
     }
 
     /// The factors in use, a row for each modulus ratio.
     pub fn factors(&self) -> &[u64]
         ensures { result.now ≡ grid_factors self.now }
     {
-        self.lists.factors.as_slice()
+        self.factors.as_slice()
     }
 }

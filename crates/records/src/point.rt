@@ -30,7 +30,8 @@ pub struct CurveRules {
 }
 
 impl Rule {
-    fn holds(self, p: Point, q: Point) -> bool
+    /// Whether this holds of a point and the next.
+    pub fn holds(self, p: Point, q: Point) -> bool
         ensures { result ≡ holds self p q }
     {
         match self {

@@ -1,6 +1,7 @@
 -- Digits cut off in stages, and the powers that do it.
-use Rattle.std.proofs.Common.{◌≡◌, ℕ, zero, suc, ◌+◌, ◌-◌, ◌*◌, ◌^◌, ◌<◌, ◌≤◌, cond, Some, None, sym, ap, ◌∙◌, subst, mul_comm, mul-le-mul, mul-le-mul_left, one-mul, pow-suc, arith, pow-add, le-leb}
+use Rattle.std.proofs.Common.{◌≡◌, ℕ, zero, suc, ◌+◌, ◌-◌, ◌*◌, ◌/◌, ◌^◌, ◌<◌, ◌≤◌, cond, Some, None, sym, ap, ◌∙◌, subst, mul_comm, div-lt_iff_lt-mul, mul-le-mul, mul-le-mul_left, one-mul, pow-suc, le-div_iff_mul-le, arith, pow-add, le-leb}
 use native.Mathlib.Nat.{pow-le-pow_right, pow-zero}
+use borrow.Author.Tests.{lt-leb}
 use Rattle.enclosure.specs.Readings.{readable}
 use Rattle.rounding.specs.Radix.{Radix}
 use Rattle.rounding.specs.Cut.{cut}
@@ -75,10 +76,29 @@ module _ {B S W bias : ℕ} (z : Radix B S W bias) where
       ap (λ x. cut t x B) e ∙ cut_cut t n (B ^ k) B (power_pos z k) (base_pos z)
       ∙ ap (λ x. cut t n x) (sym (pow-suc B k) ∙ ap (λ x. B ^ x) (sym one))
 
+  -- one digit more put on, up to a limit
+  pub more_digit : (n k m : ℕ) → m ≡ n * B ^ k → m * B ≡ n * B ^ (k + 1)
+  more_digit n k m e =
+      let one : k + 1 ≡ suc k = omega arith in
+      let p : B ^ (k + 1) ≡ B ^ k * B = ap (λ x. B ^ x) one ∙ pow-suc B k in
+      omega (arith, ap (λ x. x * B) e, ap (λ x. n * x) p)
+
+  pub grown_past : (n j k m : ℕ) → m ≡ n * B ^ j → j < k → 10 ^ 18 < m * B → None ≡ readable (n * B ^ k)
+  grown_past n j k m e h l =
+      let up : B ^ (j + 1) ≤ B ^ k = pow-le-pow_right (base_pos z) (let i : j + 1 ≤ k = omega arith in i) in
+      let big : 10 ^ 18 < n * B ^ k = omega (arith, more_digit n j m e, mul-le-mul_left n up) in
+      sym (ap (λ x. cond x (Some (n * B ^ k)) None) (lt-leb _ _ big))
+
 pub less_power : (B f : ℕ) → 0 < f → B ^ f ≡ B * B ^ (f - 1)
 less_power B f h =
     let e : f ≡ suc (f - 1) = omega arith in
     ap (λ x. B ^ x) e ∙ pow-suc B (f - 1) ∙ mul_comm (B ^ (f - 1)) B
+
+pub past_limit : (m B : ℕ) → 0 < B → 10 ^ 18 / B < m → 10 ^ 18 < m * B
+past_limit m B pos h = (div-lt_iff_lt-mul pos).0 h
+
+pub under_limit : (m B : ℕ) → 0 < B → m ≤ 10 ^ 18 / B → m * B ≤ 10 ^ 18
+under_limit m B pos h = (le-div_iff_mul-le pos).0 h
 
 pub grown_within : (n : ℕ) → n ≤ 10 ^ 18 → Some n ≡ readable n
 grown_within n h = sym (ap (λ x. cond x (Some n) None) (le-leb _ _ h))

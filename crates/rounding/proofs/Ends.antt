@@ -10,6 +10,14 @@ use Rattle.rounding.specs.Rounded.{units, zero_end, full_end}
 use Rattle.rounding.specs.declared.radix.Radix.{Ghosts}
 use Rattle.rounding.specs.declared.end.End.{End}
 
+-- what makes a radix has one proof
+pub radix_prop : {B S W bias : ℕ} → IsProp (Radix B S W bias)
+radix_prop {B} {S} {W} {bias} x y = λ i. (
+  (le_prop x.0.0 y.0.0 i, le_prop x.0.1 y.0.1 i, ℕ_set (B ^ S) W x.0.2 y.0.2 i),
+  (le_prop x.1.0 y.1.0 i, le_prop x.1.1 y.1.1 i, le_prop x.1.2 y.1.2 i),
+  (le_prop x.2.0 y.2.0 i, le_prop x.2.1 y.2.1 i),
+)
+
 pub base_pos : {B S W bias : ℕ} → Radix B S W bias → 0 < B
 base_pos z = omega arith
 

@@ -57,7 +57,7 @@ scales_fit {B} {S} {W} z t {P = P} {Q = Q} s =
 
 -- the products of two ends' digits
 module _ {B S W bias : ℕ} (z : Radix B S W bias) (t : Rounding) (da db ea eb k Q m from : ℕ) where
-  product_scales : from ≡ ea + eb + k → B ^ k ≡ Q → m ≡ cut t (da * db) Q → W * Q ≤ da * db → da * db < W * B * Q → Scales B W t (da * B ^ ea * (db * B ^ eb)) (B ^ bias) (da * db) Q m from bias
+  pub product_scales : from ≡ ea + eb + k → B ^ k ≡ Q → m ≡ cut t (da * db) Q → W * Q ≤ da * db → da * db < W * B * Q → Scales B W t (da * B ^ ea * (db * B ^ eb)) (B ^ bias) (da * db) Q m from bias
   product_scales f q is least most =
       let sum : B ^ from ≡ B ^ ea * B ^ eb * Q = ap (λ x. B ^ x) f ∙ pow-add B (ea + eb) k ∙ ap (λ x. x * B ^ k) (pow-add B ea eb) ∙ ap (λ x. B ^ ea * B ^ eb * x) q in
       record {
@@ -71,7 +71,7 @@ module _ {B S W bias : ℕ} (z : Radix B S W bias) (t : Rounding) (da db ea eb k
 
 -- the quotient of two ends' digits, of which the first is raised by k digits
 module _ {B S W bias : ℕ} (z : Radix B S W bias) (t : Rounding) (da db ea eb k F m floor : ℕ) where
-  quotient_scales : floor ≡ eb + k → B ^ k ≡ F → 0 < db → m ≡ cut t (da * F) db → W * db ≤ da * F → da * F < W * B * db → Scales B W t (da * B ^ ea * B ^ bias) (db * B ^ eb) (da * F) db m (ea + bias) floor
+  pub quotient_scales : floor ≡ eb + k → B ^ k ≡ F → 0 < db → m ≡ cut t (da * F) db → W * db ≤ da * F → da * F < W * B * db → Scales B W t (da * B ^ ea * B ^ bias) (db * B ^ eb) (da * F) db m (ea + bias) floor
   quotient_scales g f pos is least most =
       let high = pow-add B ea bias in
       let low : B ^ floor ≡ B ^ eb * F = ap (λ x. B ^ x) g ∙ pow-add B eb k ∙ ap (λ x. B ^ eb * x) f in
@@ -96,7 +96,7 @@ module _ {R : Type 0} {g : Ghosts R} (a b : End R g) where
   pub limit_square : g.FULL * g.BASE * (g.FULL * g.BASE) ≤ 2 ^ 62
   limit_square = let h = g.lawful.1.1 in omega (arith, mul-le-mul h h)
 
-  product_most : a.digits * b.digits < g.FULL * g.BASE * (g.FULL * g.BASE)
+  pub product_most : a.digits * b.digits < g.FULL * g.BASE * (g.FULL * g.BASE)
   product_most =
       let f = a.few in
       let fb = b.few in
@@ -111,14 +111,14 @@ module _ {R : Type 0} {g : Ghosts R} (a b : End R g) where
       by (suc m) zero h = absurd (omega arith)
       by (suc m) (suc n) h = (omega arith, omega arith)
 
-  product_least : (a.digits * b.digits ≡ 0 → ⊥) → g.FULL * g.FULL ≤ a.digits * b.digits
+  pub product_least : (a.digits * b.digits ≡ 0 → ⊥) → g.FULL * g.FULL ≤ a.digits * b.digits
   product_least n =
       let s = both_some (omega arith) in
       mul-le-mul (a.full s.0) (b.full s.1)
 
 -- the digits of a quotient, raised by one digit more where the first are fewer
 module _ {R : Type 0} {g : Ghosts R} (a b : End R g) where
-  quotient_low : 0 < a.digits → a.digits < b.digits → (g.FULL * b.digits ≤ a.digits * (g.FULL * g.BASE)) × (a.digits * (g.FULL * g.BASE) < g.FULL * g.BASE * b.digits)
+  pub quotient_low : 0 < a.digits → a.digits < b.digits → (g.FULL * b.digits ≤ a.digits * (g.FULL * g.BASE)) × (a.digits * (g.FULL * g.BASE) < g.FULL * g.BASE * b.digits)
   quotient_low some l =
       let w = wider g.lawful in
       let pos : 0 < g.FULL * g.BASE = omega arith in (
@@ -126,7 +126,7 @@ module _ {R : Type 0} {g : Ghosts R} (a b : End R g) where
         omega (arith, mul-lt-mul_of_pos_right l pos),
       )
 
-  quotient_high : 0 < b.digits → b.digits ≤ a.digits → (g.FULL * b.digits ≤ a.digits * g.FULL) × (a.digits * g.FULL < g.FULL * g.BASE * b.digits)
+  pub quotient_high : 0 < b.digits → b.digits ≤ a.digits → (g.FULL * b.digits ≤ a.digits * g.FULL) × (a.digits * g.FULL < g.FULL * g.BASE * b.digits)
   quotient_high some l =
       let pos : 0 < g.FULL = let z = g.lawful in omega arith in (
         omega (arith, mul-le-mul_right g.FULL l),

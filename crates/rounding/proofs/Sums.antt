@@ -140,10 +140,10 @@ module _ {R : Type 0} {g : Ghosts R} (a b : End R g) where
     rest_most : cut (turned t) b.digits (g.BASE ^ (gap - 1)) ≤ g.FULL
     rest_most = cut_most (turned t) b.digits (g.BASE ^ (gap - 1)) g.FULL (power_pos g.lawful (gap - 1)) (omega (arith, b.few, mul-le-mul_left g.FULL lift))
 
-    far_digits : (cut (turned t) b.digits (g.BASE ^ (gap - 1)) ≤ a.digits * g.BASE) × (g.FULL ≤ a.digits * g.BASE - cut (turned t) b.digits (g.BASE ^ (gap - 1)))
+    pub far_digits : (cut (turned t) b.digits (g.BASE ^ (gap - 1)) ≤ a.digits * g.BASE) × (g.FULL ≤ a.digits * g.BASE - cut (turned t) b.digits (g.BASE ^ (gap - 1)))
     far_digits = let r = rest_most in let p = mul-le-mul_right g.BASE top in let w = wider g.lawful in (omega arith, omega arith)
 
-    far_stands : Stands g.BASE g.FULL t (units a - units b) 1 (a.digits * g.BASE - cut (turned t) b.digits (g.BASE ^ (gap - 1))) (a.exponent - 1)
+    pub far_stands : Stands g.BASE g.FULL t (units a - units b) 1 (a.digits * g.BASE - cut (turned t) b.digits (g.BASE ^ (gap - 1))) (a.exponent - 1)
     far_stands =
         let z = g.lawful in
         let e = a.exponent - 1 in

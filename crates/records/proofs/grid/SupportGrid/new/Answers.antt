@@ -1,4 +1,3 @@
-use Rattle.std.proofs.Common.{◌∙◌}
 use Rattle.std.proofs.lemmas.Result.{err_from_is_err_and}
 use Rattle.records.proofs.GridLines.{values_refused, grid_made}
 use Rattle.records.proofs.grid.SupportGrid.new.Goals as goal
@@ -8,11 +7,12 @@ returns-in_err-check c =
     let p = err_from_is_err_and c.from_residual-in_err-check.result c.from_residual-in_err-check.ensures.1 in
     rw (p.1, p.2)
     (values_refused c.args.fields.now c.split_at.result.1.now _ _ _ c.if-not-grid_complete.ensures
-    (c.from_slice.ensures ∙ c.split_at.ensures.front) c.split_at.ensures.back (c.from_slice-2.ensures ∙ c.split_at-2.ensures.front) (c.from_slice-3.ensures ∙ c.split_at-2.ensures.back)
+    c.split_at.ensures.front c.split_at.ensures.back c.split_at-2.ensures.front c.split_at-2.ensures.back
     c.in_ok-in_ranges.ensures _ c.in_err-check.ensures)
 
 pub returns : goal.returns
 returns c =
-    grid_made c.args.fields.now c.split_at.result.1.now _ _ _ c.if-not-grid_complete.ensures
-    (c.from_slice.ensures ∙ c.split_at.ensures.front) c.split_at.ensures.back (c.from_slice-2.ensures ∙ c.split_at-2.ensures.front) (c.from_slice-3.ensures ∙ c.split_at-2.ensures.back)
-    c.in_ok-in_ranges.ensures c.in_ok-check.ensures
+    rw (c.from_slice.ensures, c.from_slice-2.ensures, c.from_slice-3.ensures)
+    (grid_made c.args.fields.now c.split_at.result.1.now _ _ _ c.if-not-grid_complete.ensures
+    c.split_at.ensures.front c.split_at.ensures.back c.split_at-2.ensures.front c.split_at-2.ensures.back
+    c.in_ok-in_ranges.ensures c.in_ok-check.ensures)
