@@ -5,12 +5,13 @@ mod radices;
 // Named enclosure, it would hide the library.
 mod span;
 
-ghost use Rattle.std.specs.Prelude.{◌≡◌, refl};
+ghost use Rattle.std.specs.Prelude.{◌≡◌, ◌^◌, refl};
 ghost use Rattle.rounding.specs.Pairs.{larger_end, smaller_end};
 ghost use Rattle.rounding.specs.Rounded.{or_zero, Ordered};
 ghost use Rattle.digits.specs.Canonical.{EndsDecide};
 ghost use Rattle.digits.specs.Laws.{sound_of};
 ghost use Rattle.digits.specs.Meaning.{model_of};
+ghost use Rattle.digits.specs.Named.{IsOfDigits};
 
 use enclosure::{Arithmetic, Comparison, ReadOut};
 pub use radices::{Binary, Decimal, Ten, Two};
@@ -132,4 +133,10 @@ fn larger_end<R: Radix>(a: End<R>, b: End<R>) -> End<R>
 /// Enclosures with equal ends are equal values, so that equal operands are those with equal ends.
 pub fn ends_decide<R: Radix>()
     ensures { EndsDecide R.Radix }
+{}
+
+/// `Binary` has 31 binary digits and `Decimal` nine decimal ones; so their finenesses are 2^30 and 10^8.
+pub fn arithmetics_are_as_named()
+    ensures binary { IsOfDigits ⟦<Binary as Arithmetic>⟧.model 31 2 (2 ^ 30) 180 }
+    ensures decimal { IsOfDigits ⟦<Decimal as Arithmetic>⟧.model 9 10 (10 ^ 8) 52 }
 {}
