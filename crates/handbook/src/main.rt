@@ -12,8 +12,9 @@ use enclosure::{Arithmetic, ReadOut, wide};
 use fraction::Ratio;
 use judging::{Figure, figure};
 use quantities::Case;
-use records::{EmbedmentCurve, Section, ShapeCurve, Site, SupportGrid};
+use records::{EmbedmentCurve, Fault, Section, ShapeCurve, Site, SupportGrid};
 use std::io;
+use thiserror::Error;
 
 /// The example's site and pipe, in mil, tenths of pcf and hundredths.
 const FILL: u64 = 180_000;
@@ -133,7 +134,17 @@ fn print_figure(
     println!(rt; "  printed: {whole}.{hundredths:02}; within 2 in 100: {verdict}")
 }
 
-fn print_figures(rt: &impl Print) -> anyhow::Result<()> {
+/// Why the program stops early.
+// Its own type, and no `anyhow::Error`: what standard error then shows is how this one is written.
+#[derive(Debug, Drop, Error)]
+enum Stop {
+    #[error(transparent)]
+    Refused(#[from] Fault),
+    #[error(transparent)]
+    Output(#[from] io::Error),
+}
+
+fn print_figures(rt: &impl Print) -> Result<(), Stop> {
     let section = Section::new(&[
         36_000, 38_500, OUTSIDE, 6_500, 5_400, 1_520_000, 175_000, 28_000, 370, 250, 4_000,
     ])?;
@@ -165,7 +176,7 @@ fn print_figures(rt: &impl Print) -> anyhow::Result<()> {
     Ok(())
 }
 
-fn main(rt: HostRuntime) -> anyhow::Result<()> {
+fn main(rt: HostRuntime) -> Result<(), Stop> {
     println!(rt; "A 36-inch polypropylene storm drain under 15 feet of fill")?;
     println!(rt; "  fill {FILL} mil, outside diameter {OUTSIDE} mil")?;
     println!(rt; "  water {WATER} mil above the springline, its depth times {WATER_FACTOR}/100")?;

@@ -1,5 +1,5 @@
 -- Why the console refuses: each cause by its number, and a refusal as it is printed.
-use Rattle.std.specs.Prelude.{ℕ, Bool, true, false, Some, None, Ok, Err, Option, Result}
+use Rattle.std.specs.Prelude.{ℕ, ◌++◌, List, Bool, true, false, Some, None, Ok, Err, Option, Result, codes, decimal}
 use Rattle.records.specs.declared.fault.Cause.{Cause}
 use Rattle.records.specs.declared.fault.Cause.TheVariants.{Place, Range, Order, Steep, Empty, Trench, Water, Figure, Claim, Tally, Writing, Part, Trailer, Length}
 use Rattle.records.specs.declared.fault.Fault.{Fault}
@@ -33,6 +33,10 @@ refusal c f = record { cause = number c; field = f }
 -- a fault as it is printed
 abbrev pub stated : Fault → Refusal
 stated f = refusal f.cause f.field
+
+-- a fault in words: the number of its cause, and that of its field
+abbrev pub fault_text : Fault → List ℕ
+fault_text f = codes "cause " ++ decimal (number f.cause) ++ codes " in field " ++ decimal f.field
 
 -- the first of two refusals
 abbrev pub first : Option Refusal → Option Refusal → Option Refusal

@@ -74,6 +74,11 @@ impl Cause {
 }
 
 impl Display for Fault {
+    ghost use Rattle.std.specs.Prelude.{Some};
+    ghost use Rattle.records.specs.Cause.{fault_text};
+
+    ghost output = { λ fault. Some (fault_text fault) };
+
     fn fmt<W: Write>(&self, f: &mut Formatter<W>) -> fmt::Result {
         write!(f, "cause {} in field {}", self.cause.number(), self.field)
     }
