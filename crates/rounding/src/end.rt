@@ -32,7 +32,7 @@ impl<R: Radix> Clone for End<R> {
 
 impl<R: Radix> Copy for End<R> {}
 
-// An end holds nothing of its radix, so it crosses threads whatever R is.
+// An end holds nothing of its radix, so it crosses threads whatever R is: the check proves it of the fields.
 unsafe impl<R: Radix> Send for End<R> {}
 
 unsafe impl<R: Radix> Sync for End<R> {}
