@@ -68,6 +68,9 @@ module _ (ns rest ws ms fs : List ℕ) (complete : true ≡ grid_complete ns)
   factors_is : fs ≡ drop (2 + wide + deep) ns
   factors_is = f ∙ ap (drop deep) rest_is ∙ drop-drop deep (2 + wide) ns
 
+  pub factors_length : length fs ≡ deep * wide
+  factors_length = rw factors_is (simp length-drop (omega (arith, asked)))
+
   pub counts_are : take 2 ns ≡ length ws ∷ length ms ∷ []
   counts_are =
       let a : length ws ≡ wide = rw widths_is (simp (length-take, length-drop) (omega (arith, asked))) in
